@@ -3,8 +3,7 @@ ghost use Rattle.std.specs.Prelude.{◌≡◌, ◌+◌, ◌-◌, ◌^◌, ◌<�
 ghost use Rattle.std.specs.List.{concat};
 ghost use Rattle.sl_link.specs.Io.Output.{Adds, KeepsWriter};
 ghost use Rattle.sl_link.specs.Io.Streams.{StopsWriting};
-ghost use Rattle.sl_link.specs.Pass.{PassesOver, StopsPassing};
-ghost use Rattle.sl_link.specs.Verbs.Listing.{EndsListing, lines_from};
+ghost use Rattle.sl_link.specs.Verbs.Listing.{EndsListing, MayBegin};
 
 pub mod check;
 pub mod packets;
@@ -113,37 +112,6 @@ impl<'a, 'b, 'c, W: Write, V: Verb> FrameSink for Lister<'a, 'b, 'c, W, V> {
     }
 }
 
-// Lists the frames of a recording, and answers how many octets were read. The last lines may still wait.
-fn list_frames<F: Framer, V: Verb, R: Read, W: Write>(
-    managed: &Managed,
-    framer: &mut F,
-    verb: &mut V,
-    reader: &mut Counted<R>,
-    out: &mut Output<W>,
-    buffer: &mut [u8],
-) -> Result<u64, LinkFault>
-    requires room { 0 < length buffer.old }
-    requires none { F.waits framer.old managed.now [] }
-    requires same { (frame : List ℕ) → F.is_frame managed.now frame → V.is_frame managed.now frame }
-    requires begun { V.has_listed verb.old managed.now [] }
-    requires empty { out.old.lines ≡ [] }
-    ensures all { IfOk result (PassesOver R.remaining reader.old reader.new
-        (F.frames_of managed.now) (λ frames. V.has_listed verb.new managed.now frames
-        × Adds W.contents out.old (lines_from (V.listing managed.now).line [] frames) out.new)
-        managed.now.max_octets) }
-    ensures fault { IfErr result (StopsPassing R.remaining reader.old reader.new
-        (F.frames_of managed.now) (λ frames. V.has_listed verb.new managed.now frames
-        × Adds W.contents out.old (lines_from (V.listing managed.now).line [] frames) out.new)
-        (λ frames fault. KeepsWriter out.old out.new
-        × StopsWriting W.contents out.old.writer.now out.new.writer.now
-        (out.old.lines ++ lines_from (V.listing managed.now).line [] frames)
-        (V.may_refuse_memory managed.now frames) fault) managed.now.max_octets (length buffer.old)) }
-{
-    let managed = *managed;
-    let mut lister = Lister { verb, out };
-    read_recording(&managed, framer, &mut lister, reader, buffer)
-}
-
 // Reads a recording to its end, and writes the listing of it into an output in which no line waits.
 fn list_into<F: Framer, V: Verb, R: Read, W: Write>(
     managed: &Managed,
@@ -153,18 +121,19 @@ fn list_into<F: Framer, V: Verb, R: Read, W: Write>(
     out: &mut Output<W>,
     buffer: &mut [u8],
 ) -> Result<Totals, LinkFault>
-    requires room { 0 < length buffer.old }
-    requires none { F.waits framer.old managed.now [] }
-    requires same { (frame : List ℕ) → F.is_frame managed.now frame → V.is_frame managed.now frame }
-    requires begun { V.has_listed verb.old managed.now [] }
+    requires begin { MayBegin buffer.old (F.waits framer.old managed.now) (F.is_frame managed.now)
+        (V.is_frame managed.now) (V.has_listed verb.old managed.now) }
     requires empty { out.old.lines ≡ [] }
     ensures { KeepsWriter out.old out.new
         × EndsListing R.remaining W.contents reader.old reader.new out.old.writer.now
         out.new.writer.now (F.frames_of managed.now) (V.listing managed.now)
         managed.now.max_octets (length buffer.old) (V.may_refuse_memory managed.now) result }
 {
-    let octets = list_frames(managed, framer, verb, reader, out, buffer)?;
-    let totals = verb.finish(managed, octets, out)?;
+    // A copy, since what is proved of the sink speaks of parameters that are lent to it alone.
+    let managed = *managed;
+    let mut lister = Lister { verb, out };
+    let octets = read_recording(&managed, framer, &mut lister, reader, buffer)?;
+    let totals = verb.finish(&managed, octets, out)?;
     out.flush()?;
     Ok(totals)
 }
@@ -178,10 +147,8 @@ pub fn list<F: Framer, V: Verb, R: Read, W: Write>(
     writer: &mut Counted<W>,
     buffer: &mut [u8],
 ) -> Result<Totals, LinkFault>
-    requires room { 0 < length buffer.old }
-    requires none { F.waits framer.old managed.now [] }
-    requires same { (frame : List ℕ) → F.is_frame managed.now frame → V.is_frame managed.now frame }
-    requires begun { V.has_listed verb.old managed.now [] }
+    requires { MayBegin buffer.old (F.waits framer.old managed.now) (F.is_frame managed.now)
+        (V.is_frame managed.now) (V.has_listed verb.old managed.now) }
     ensures { EndsListing R.remaining W.contents reader.old reader.new writer.old writer.new
         (F.frames_of managed.now) (V.listing managed.now) managed.now.max_octets
         (length buffer.old) (V.may_refuse_memory managed.now) result }

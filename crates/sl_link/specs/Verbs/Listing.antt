@@ -1,5 +1,5 @@
 -- A listing that is written frame by frame: the lines of each frame by the frames before it, and those after the last.
-use Rattle.std.specs.Prelude.{◌≡◌, ℕ, List, [], ◌∷◌, ◌++◌, Option, Result, IfOk, IfErr, OnOk}
+use Rattle.std.specs.Prelude.{◌≡◌, ◌<◌, ℕ, List, [], ◌∷◌, ◌++◌, length, Option, Result, IfOk, IfErr, OnOk}
 use Rattle.sl_link.specs.declared.link.counted.Counted.{Counted}
 use Rattle.sl_link.specs.declared.link.fault.LinkFault.{LinkFault}
 use Rattle.sl_link.specs.declared.link.fault.LinkFault.TheVariants.{Memory}
@@ -31,8 +31,17 @@ abbrev pub listing_text : (List ℕ → Frames) → Listing → List ℕ → Lis
 listing_text frames_of l recording = lines_from l.line [] (frames_of recording)
     ++ l.last (frames_of recording) (remainder_after (frames_of recording) recording)
 
--- How a listing ends: all is read, and its listing written and counted; or a fault came, which has its cause. Contracts
--- of private functions alone cite this.
+-- ---- the engines of listings. Contracts of private functions alone cite this section.
+
+-- A listing may begin: the buffer has room, and no octets wait in the framer; the verb may list each frame that the
+-- framer cuts, and has listed none.
+pub record MayBegin (buffer : List ℕ) (waits is_cut is_listed : List ℕ → Type 0) (has_listed : Frames → Type 0) : Type 0 where
+  pub room : 0 < length buffer
+  pub none : waits []
+  pub same : (frame : List ℕ) → is_cut frame → is_listed frame
+  pub begun : has_listed []
+
+-- How a listing ends: all is read, and its listing written and counted; or a fault came, which has its cause.
 pub record EndsListing {R W : Type 0} (remaining : R → Option (List ℕ)) (contents : W → Option (List ℕ))
     (reader reader' : Counted R) (writer writer' : Counted W) (frames_of : List ℕ → Frames) (l : Listing)
     (limit buffer : ℕ) (may_refuse_memory : Frames → Type 0) (result : Result Counts LinkFault) : Type 0 where

@@ -56,22 +56,25 @@ module _ {R W : Type 0} (remaining : R → Option (List ℕ)) (contents : W → 
         (lent, record { listing = tt; totals = tt; fault = record { octets = octets; read = read; written = written; cause = cause }; memory = λ is_memory. allowed (s.memory is_memory) })
 
     -- a fault before all was read
-    pub stops_frames : (has_listed : Frames → Type 0) (fault : LinkFault)
-        → StopsPassing remaining reader reader' frames_of (λ frames. has_listed frames × Adds contents start (lines_from l.line [] frames) new)
-        (λ frames fault. KeepsWriter start new × StopsWriting contents start.writer.now new.writer.now (start.lines ++ lines_from l.line [] frames) (may_refuse_memory frames) fault) limit buffer fault
-        → Ends (Err fault)
-    stops_frames has_listed fault s =
+    pub stops_frames : (taken : Frames → Type 0) (stopped : Frames → LinkFault → Type 0) (fault : LinkFault)
+        → ((frames : Frames) → taken frames → Adds contents start (lines_from l.line [] frames) new)
+        → ((frames : Frames) → stopped frames fault → KeepsWriter start new
+        × StopsWriting contents start.writer.now new.writer.now (start.lines ++ lines_from l.line [] frames) (may_refuse_memory frames) fault)
+        → StopsPassing remaining reader reader' frames_of taken stopped limit buffer fault → Ends (Err fault)
+    stops_frames taken stopped fault added stops s =
         let more = lines_from l.line s.first s.later ++ l.last (frames_of s.octets) (remainder_after (frames_of s.octets) s.octets) in
         let text = later_text s.octets s.first s.later s.in_order in
         elim s.cause [
           | inl at ↦
-              let t = at.0.1.adds in
+              let a = added s.first at.0 in
+              let t = a.adds in
               let front : t.written ++ (new.lines ++ more) ≡ listing_text frames_of l s.octets = rw (← append_assoc t.written new.lines more, ← t.parts, empty) text in
               let written : WritesPrefix contents start.writer.now new.writer.now (listing_text frames_of l s.octets) = record { written = t.written; missing = new.lines ++ more; front = front; writes = t.writes } in
               let cause = reader_caused reader reader' start.writer.now new.writer.now limit buffer s.octets fault t.no_fault at.2 in
-              (at.0.1.lent, record { listing = tt; totals = tt; fault = record { octets = s.octets; read = s.read; written = written; cause = cause }; memory = λ is_memory. absurd (at.1 is_memory) })
+              (a.lent, record { listing = tt; totals = tt; fault = record { octets = s.octets; read = s.read; written = written; cause = cause }; memory = λ is_memory. absurd (at.1 is_memory) })
           | inr at ↦
-              stops_at (may_refuse_memory s.first) (lines_from l.line [] s.first) more s.octets fault s.read at.1 at.2 text at.0.0 at.0.1
+              let w = stops s.first at.0 in
+              stops_at (may_refuse_memory s.first) (lines_from l.line [] s.first) more s.octets fault s.read at.1 at.2 text w.0 w.1
               (λ at_memory. record { octets = s.octets; read = s.read; first = s.first; later = s.later; in_order = s.in_order; at_last = at_memory })
         ]
 

@@ -6,21 +6,21 @@ pub returns-in_err-octets : goal.returns-in_err-octets
 returns-in_err-octets g c =
     let s = c.in_err-octets.ensures.fault in
     let out = err_from_is_err_and c.from_residual.result c.from_residual.ensures.1 in
-    rw (out.1, out.2) (stops_frames _ _ (g.V.Verb.listing c.args.managed.now) _ _ _ _ _ _ _ _ c.requires.empty _ _ s)
+    rw (out.1, out.2) (stops_frames _ _ (g.V.Verb.listing c.args.managed.now) _ _ _ _ _ _ _ _ c.requires.empty _ _ _ (λ frames t. t.3) (λ frames t. (t.1, t.2)) s)
 
 pub returns-in_err-totals : goal.returns-in_err-totals
 returns-in_err-totals g c =
     let s = c.in_ok-octets.ensures.all in
     let out = err_from_is_err_and c.from_residual-in_err-totals.result c.from_residual-in_err-totals.ensures.1 in
-    rw (out.1, out.2) (stops_finish _ _ (g.V.Verb.listing c.args.managed.now) _ _ _ _ _ _ _ c.finish.new.out c.requires.empty _ _ s _ s.all.1 _ c.in_err-totals.ensures.lent (c.in_err-totals.ensures.fault _ s.all.0))
+    rw (out.1, out.2) (stops_finish _ _ (g.V.Verb.listing c.args.managed.now) _ _ _ _ _ _ _ c.finish.new.out c.requires.empty _ _ s _ s.all.3 _ c.in_err-totals.ensures.lent (c.in_err-totals.ensures.fault _ s.all.2))
 
 pub returns-in_err-flush : goal.returns-in_err-flush
 returns-in_err-flush g c =
     let s = c.in_ok-octets.ensures.all in
     let out = err_from_is_err_and c.from_residual-in_err-flush.result c.from_residual-in_err-flush.ensures.1 in
-    rw (out.1, out.2) (stops_flush _ _ (g.V.Verb.listing c.args.managed.now) _ _ _ _ _ _ _ c.flush.new.self c.requires.empty _ _ s _ s.all.1 _ (c.in_ok-totals.ensures.lines _ s.all.0) _ c.in_err-flush.ensures.lent c.in_err-flush.ensures.fault)
+    rw (out.1, out.2) (stops_flush _ _ (g.V.Verb.listing c.args.managed.now) _ _ _ _ _ _ _ c.flush.new.self c.requires.empty _ _ s _ s.all.3 _ (c.in_ok-totals.ensures.lines _ s.all.2) _ c.in_err-flush.ensures.lent c.in_err-flush.ensures.fault)
 
 pub returns : goal.returns
 returns g c =
     let s = c.in_ok-octets.ensures.all in
-    lists_all _ _ (g.V.Verb.listing c.args.managed.now) _ _ _ _ _ _ _ _ c.requires.empty _ _ s _ s.all.1 _ (c.in_ok-totals.ensures.lines _ s.all.0) _ c.in_ok-flush.ensures.kept c.in_ok-flush.ensures.emptied (c.in_ok-totals.ensures.counts _ s.all.0)
+    lists_all _ _ (g.V.Verb.listing c.args.managed.now) _ _ _ _ _ _ _ _ c.requires.empty _ _ s _ s.all.3 _ (c.in_ok-totals.ensures.lines _ s.all.2) _ c.in_ok-flush.ensures.kept c.in_ok-flush.ensures.emptied (c.in_ok-totals.ensures.counts _ s.all.2)

@@ -2,22 +2,10 @@
 use Rattle.std.specs.Prelude.{◌≡◌, ◌↔◌, ◌⊎◌, ℕ, ◌<◌, ◌≤◌, List, ◌++◌, length, take, drop, max, Bool, IsTrue, IfOk, IfErr}
 use Rattle.sl_link.specs.Link.Managed.{Parameters}
 use Rattle.sl_link.specs.Link.Totals.{Counts}
-use Rattle.sl_link.specs.Kind.Tc.{tc_counts}
-use Rattle.sl_link.specs.Kind.Tm.{tm_counts}
-use Rattle.sl_link.specs.Normalise.Tc.{tc_normal_form}
-use Rattle.sl_link.specs.Normalise.Tm.{tm_normal_form}
-use Rattle.sl_link.specs.Verbs.Check.Tc.{check_tc_counts, check_tc_text}
-use Rattle.sl_link.specs.Verbs.Check.Tm.{check_tm_counts, check_tm_text}
-use Rattle.sl_link.specs.Verbs.Packets.Tc.{packets_tc_text}
-use Rattle.sl_link.specs.Verbs.Packets.Tm.{packets_tm_text}
-use Rattle.sl_link.specs.Verbs.Show.Tc.{show_tc_counts, show_tc_text}
-use Rattle.sl_link.specs.Verbs.Show.Tm.{show_tm_counts, show_tm_text}
 use Rattle.sl_c.specs.Answer.{Says}
 use Rattle.sl_c.specs.declared.answer.Answer.TheVariants.{Done, Memory, Room}
 use Rattle.sl_c.specs.declared.link.ManagedFields.{ManagedFields}
 use Rattle.sl_c.specs.declared.link.TotalsFields.{TotalsFields}
-use Rattle.sl_c.specs.declared.recording.Engine.{Engine}
-use Rattle.sl_c.specs.declared.recording.Engine.TheVariants.{ShowTm, ShowTc, CheckTm, CheckTc, PacketsTm, PacketsTc, NormaliseTm, NormaliseTc}
 use Rattle.sl_c.specs.Link.{counts_of_totals, reading_of}
 
 -- ---- the text of a recording
@@ -59,27 +47,3 @@ pub record ComparesPackets (packets : Parameters → List ℕ → List (List (Li
   pub refused : IfErr (reading_of m (max (length one) (length other))) (λ refusal. Says answer refusal × (same' ≡ same))
   pub read : IfOk (reading_of m (max (length one) (length other))) (λ p. (Says answer Memory × (same' ≡ same) × (may_refuse_memory p one ⊎ may_refuse_memory p other))
       ⊎ (Says answer Done × (IsTrue same' ↔ (packets p one ≡ packets p other))))
-
--- ---- the engines
-
--- the listing of its frames, of its anomalies or of its packets, or the normal form of its packets
-abbrev pub text_by : Engine → Parameters → List ℕ → List ℕ
-text_by ShowTm = show_tm_text
-text_by ShowTc = show_tc_text
-text_by CheckTm = check_tm_text
-text_by CheckTc = check_tc_text
-text_by PacketsTm = packets_tm_text
-text_by PacketsTc = packets_tc_text
-text_by NormaliseTm = tm_normal_form
-text_by NormaliseTc = tc_normal_form
-
--- what is counted in it
-abbrev pub counts_by : Engine → Parameters → List ℕ → Counts
-counts_by ShowTm = show_tm_counts
-counts_by ShowTc = show_tc_counts
-counts_by CheckTm = check_tm_counts
-counts_by CheckTc = check_tc_counts
-counts_by PacketsTm = tm_counts
-counts_by PacketsTc = tc_counts
-counts_by NormaliseTm = tm_counts
-counts_by NormaliseTc = tc_counts

@@ -4,8 +4,8 @@
 //! `output`, the size of the whole text in octets to `size`, and what was counted to `totals`. The
 //! answer is `Done`, or `Room` where the text is longer than `output`. Under any other answer, a
 //! refused parameter, `TooLong` or `Memory`, nothing is written.
-ghost use Rattle.std.specs.Prelude.{◌≡◌, ◌++◌, ◌<◌, ◌≤◌, length, take, drop, IfOk, IfSome};
-ghost use Rattle.sl_link.specs.Io.Streams.{TranslatesWithTotals};
+ghost use Rattle.std.specs.Prelude.{◌≡◌, ◌++◌, ◌<◌, ◌≤◌, length, take, drop, IfSome};
+ghost use Rattle.sl_link.specs.Engine.{engine_counts, engine_text};
 ghost use Rattle.sl_link.specs.Kind.Tc.{tc_counts};
 ghost use Rattle.sl_link.specs.Kind.Tm.{tm_counts};
 ghost use Rattle.sl_link.specs.Normalise.Tc.{tc_normal_form};
@@ -17,29 +17,12 @@ ghost use Rattle.sl_link.specs.Verbs.Packets.Tm.{packets_tm_text};
 ghost use Rattle.sl_link.specs.Verbs.Show.Tc.{show_tc_counts, show_tc_text};
 ghost use Rattle.sl_link.specs.Verbs.Show.Tm.{show_tm_counts, show_tm_text};
 ghost use Rattle.sl_c.specs.Answer.{Says};
-ghost use Rattle.sl_c.specs.Recording.{GivesText, counts_by, lent, text_by};
+ghost use Rattle.sl_c.specs.Recording.{GivesText, lent};
 
 use crate::answer::Answer;
 use crate::link::{ManagedFields, TotalsFields, managed_for, totals_fields};
-use sl_link::{
-    Counted, LinkFault, Managed, Totals, check_tc, check_tm, normalise_tc, normalise_tm,
-    packets_tc, packets_tm, show_tc, show_tm,
-};
+use sl_link::{Counted, Engine, Managed, RecordingKind, Totals, VerbName, run_engine};
 use std::alloc::Global;
-use std::io::{Read, Write};
-
-/// What is made of a recording: the verb, and the kind of the frames.
-#[derive(Clone, Copy)]
-pub enum Engine {
-    ShowTm,
-    ShowTc,
-    CheckTm,
-    CheckTc,
-    PacketsTm,
-    PacketsTc,
-    NormaliseTm,
-    NormaliseTc,
-}
 
 /// Lists the frames of a recording of TM transfer frames.
 #[unsafe(no_mangle)]
@@ -56,7 +39,7 @@ pub extern "C" fn sllink_show_tm(
 {
     give_text(
         alloc,
-        Engine::ShowTm,
+        (VerbName::Show, RecordingKind::Tm),
         managed,
         recording,
         output,
@@ -80,7 +63,7 @@ pub extern "C" fn sllink_show_tc(
 {
     give_text(
         alloc,
-        Engine::ShowTc,
+        (VerbName::Show, RecordingKind::Tc),
         managed,
         recording,
         output,
@@ -104,7 +87,7 @@ pub extern "C" fn sllink_check_tm(
 {
     give_text(
         alloc,
-        Engine::CheckTm,
+        (VerbName::Check, RecordingKind::Tm),
         managed,
         recording,
         output,
@@ -128,7 +111,7 @@ pub extern "C" fn sllink_check_tc(
 {
     give_text(
         alloc,
-        Engine::CheckTc,
+        (VerbName::Check, RecordingKind::Tc),
         managed,
         recording,
         output,
@@ -152,7 +135,7 @@ pub extern "C" fn sllink_packets_tm(
 {
     give_text(
         alloc,
-        Engine::PacketsTm,
+        (VerbName::Packets, RecordingKind::Tm),
         managed,
         recording,
         output,
@@ -176,7 +159,7 @@ pub extern "C" fn sllink_packets_tc(
 {
     give_text(
         alloc,
-        Engine::PacketsTc,
+        (VerbName::Packets, RecordingKind::Tc),
         managed,
         recording,
         output,
@@ -200,7 +183,7 @@ pub extern "C" fn sllink_normalise_tm(
 {
     give_text(
         alloc,
-        Engine::NormaliseTm,
+        (VerbName::Normalise, RecordingKind::Tm),
         managed,
         recording,
         output,
@@ -224,7 +207,7 @@ pub extern "C" fn sllink_normalise_tc(
 {
     give_text(
         alloc,
-        Engine::NormaliseTc,
+        (VerbName::Normalise, RecordingKind::Tc),
         managed,
         recording,
         output,
@@ -243,8 +226,9 @@ fn give_text(
     size: &mut usize,
     totals: &mut TotalsFields,
 ) -> u32
-    ensures { GivesText (text_by engine) (counts_by engine) fields.now recording.now
-        (lent output.old size.old totals.old) (lent output.new size.new totals.new) result }
+    ensures { GivesText (engine_text engine.0 engine.1) (engine_counts engine.0 engine.1)
+        fields.now recording.now (lent output.old size.old totals.old)
+        (lent output.new size.new totals.new) result }
 {
     let managed = match managed_for(fields, recording.len()) {
         Ok(managed) => managed,
@@ -285,38 +269,14 @@ fn read_whole(
     recording: &[u8],
 ) -> Option<(Vec<u8>, Totals)>
     ensures text { IfSome result (λ read. read.0.items
-        ≡ text_by engine managed.now recording.now) }
+        ≡ engine_text engine.0 engine.1 managed.now recording.now) }
     ensures counts { IfSome result (λ read. read.1
-        ≡ counts_by engine managed.now recording.now) }
+        ≡ engine_counts engine.0 engine.1 managed.now recording.now) }
 {
     let mut reader = Counted::new(recording);
     let mut writer = Counted::new(Vec::new(alloc));
-    match run(alloc, engine, managed, &mut reader, &mut writer) {
+    match run_engine(alloc, engine, managed, &mut reader, &mut writer) {
         Ok(totals) => Some((writer.into_inner(), totals)),
         Err(_) => None,
-    }
-}
-
-// Runs an engine.
-fn run<R: Read, W: Write>(
-    alloc: Global,
-    engine: Engine,
-    managed: &Managed,
-    reader: &mut Counted<R>,
-    writer: &mut Counted<W>,
-) -> Result<Totals, LinkFault>
-    ensures { IfOk result (TranslatesWithTotals R.remaining W.contents reader.old reader.new
-        writer.old writer.new (text_by engine managed.now) (counts_by engine managed.now)
-        managed.now.max_octets) }
-{
-    match engine {
-        Engine::ShowTm => show_tm(managed, reader, writer),
-        Engine::ShowTc => show_tc(managed, reader, writer),
-        Engine::CheckTm => check_tm(alloc, managed, reader, writer),
-        Engine::CheckTc => check_tc(alloc, managed, reader, writer),
-        Engine::PacketsTm => packets_tm(alloc, managed, reader, writer),
-        Engine::PacketsTc => packets_tc(alloc, managed, reader, writer),
-        Engine::NormaliseTm => normalise_tm(alloc, managed, reader, writer),
-        Engine::NormaliseTc => normalise_tc(alloc, managed, reader, writer),
     }
 }

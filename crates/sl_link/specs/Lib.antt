@@ -1,3 +1,4 @@
+pub mod Engine
 pub mod Io
 pub mod Kind
 pub mod Link

@@ -11,9 +11,11 @@
 //!
 //! Each call is under the [`Managed`] parameters of the link, and answers why it stopped, a [`LinkFault`], or what it
 //! found. The first three read a [`Counted`] stream, write another one and answer what they counted, their [`Totals`].
-//! The last two answer a `bool`; `same_packets_` reads two such streams.
+//! The last two answer a `bool`; `same_packets_` reads two such streams. [`run_engine`] is the first three, by a
+//! [`VerbName`] and a [`RecordingKind`].
 #![tactic(auto)]
 
+mod engine;
 mod io;
 mod kind;
 pub mod laws;
@@ -26,6 +28,7 @@ mod same;
 mod tally;
 mod verbs;
 
+pub use engine::{Engine, RecordingKind, VerbName, run_engine};
 pub use link::counted::Counted;
 pub use link::fault::LinkFault;
 pub use link::managed::{Managed, ManagedFault};

@@ -6,20 +6,20 @@ ghost use Rattle.sl_link.specs.Program.Answer.{EndsAsHelp, MayLackMemory, WithAn
 ghost use Rattle.sl_link.specs.Program.CommandLine.{AreRefused};
 ghost use Rattle.sl_link.specs.Link.Counted.{stream_of, faults_of, HadOneFault};
 ghost use Rattle.sl_link.specs.Io.Streams.{StopsWriting, WritesText};
-ghost use Rattle.sl_link.specs.Program.Run.{AsksForRefusedParameter, HasMetAnomalies, HasStopped, HasSucceeded, HasWritten, IsStoppedBy, WithAsked};
+ghost use Rattle.sl_link.specs.Engine.{HasWritten, IsStoppedBy};
+ghost use Rattle.sl_link.specs.Program.Run.{AsksForRefusedParameter, HasMetAnomalies, HasStopped, HasSucceeded, WithAsked};
 
 pub mod command_line;
 
+use crate::engine::{Engine, run_engine};
 use crate::io::streams::write_text;
 use crate::link::counted::Counted;
 use crate::link::fault::LinkFault;
 use crate::link::managed::Managed;
 use crate::link::totals::Totals;
-use crate::listings::{check_tc, check_tm, packets_tc, packets_tm, show_tc, show_tm};
-use crate::normalise::{normalise_tc, normalise_tm};
 use clap::Error;
 use clap::error::ErrorKind;
-use command_line::{Asked, RecordingKind, VerbName, parse};
+use command_line::{Asked, parse};
 use std::alloc::{AllocError, Global};
 use std::io::{Read, Write};
 
@@ -116,8 +116,9 @@ fn run_asked<R: Read, W: Write, E: Write>(
     ensures stopped { result ≡ 3 → HasStopped R.remaining W.contents reader.old reader.new
         writer.old writer.new asked.now }
 {
+    let engine = (asked.verb, asked.kind);
     match &asked.managed {
-        Ok(managed) => match run_and_flush(alloc, asked, managed, reader, writer) {
+        Ok(managed) => match run_and_flush(alloc, engine, managed, reader, writer) {
             Ok(totals) if totals.anomalies() == 0 => SUCCESS,
             Ok(_) => ANOMALIES,
             Err(fault) => report(fault, errors),
@@ -129,47 +130,22 @@ fn run_asked<R: Read, W: Write, E: Write>(
     }
 }
 
-// Runs the engine that is asked for, and flushes what it has written.
+// Runs an engine, and flushes what it has written.
 fn run_and_flush<R: Read, W: Write>(
     alloc: Global,
-    asked: &Asked,
+    engine: Engine,
     managed: &Managed,
     reader: &mut Counted<R>,
     writer: &mut Counted<W>,
 ) -> Result<Totals, LinkFault>
     ensures written { IfOk result (HasWritten R.remaining W.contents reader.old reader.new
-        writer.old writer.new asked.now managed.now) }
+        writer.old writer.new engine managed.now) }
     ensures stopped { IfErr result (IsStoppedBy R.remaining W.contents reader.old reader.new
-        writer.old writer.new asked.now managed.now) }
+        writer.old writer.new engine managed.now) }
 {
-    let totals = run_engine(alloc, asked, managed, reader, writer)?;
+    let totals = run_engine(alloc, engine, managed, reader, writer)?;
     flush(writer)?;
     Ok(totals)
-}
-
-// Runs the engine that is asked for.
-fn run_engine<R: Read, W: Write>(
-    alloc: Global,
-    asked: &Asked,
-    managed: &Managed,
-    reader: &mut Counted<R>,
-    writer: &mut Counted<W>,
-) -> Result<Totals, LinkFault>
-    ensures written { IfOk result (HasWritten R.remaining W.contents reader.old reader.new
-        writer.old writer.new asked.now managed.now) }
-    ensures stopped { IfErr result (IsStoppedBy R.remaining W.contents reader.old reader.new
-        writer.old writer.new asked.now managed.now) }
-{
-    match (asked.verb, asked.kind) {
-        (VerbName::Show, RecordingKind::Tm) => show_tm(managed, reader, writer),
-        (VerbName::Show, RecordingKind::Tc) => show_tc(managed, reader, writer),
-        (VerbName::Check, RecordingKind::Tm) => check_tm(alloc, managed, reader, writer),
-        (VerbName::Check, RecordingKind::Tc) => check_tc(alloc, managed, reader, writer),
-        (VerbName::Packets, RecordingKind::Tm) => packets_tm(alloc, managed, reader, writer),
-        (VerbName::Packets, RecordingKind::Tc) => packets_tc(alloc, managed, reader, writer),
-        (VerbName::Normalise, RecordingKind::Tm) => normalise_tm(alloc, managed, reader, writer),
-        (VerbName::Normalise, RecordingKind::Tc) => normalise_tc(alloc, managed, reader, writer),
-    }
 }
 
 // Flushes what was written.

@@ -22,12 +22,12 @@ use Rattle.sl_tcframe.specs.VcSet as vc_set
 use Rattle.sl_link.specs.Link.Managed.{Parameters, managed_of}
 use Rattle.sl_link.specs.declared.link.managed.ManagedFault.{ManagedFault}
 use Rattle.sl_link.specs.declared.program.command_line.Asked.{Asked}
-use Rattle.sl_link.specs.declared.program.command_line.RecordingKind.{RecordingKind}
-use Rattle.sl_link.specs.declared.program.command_line.RecordingKind.TheVariants.{Tm, Tc}
+use Rattle.sl_link.specs.declared.engine.RecordingKind.{RecordingKind}
+use Rattle.sl_link.specs.declared.engine.RecordingKind.TheVariants.{Tm, Tc}
 use Rattle.sl_link.specs.declared.program.command_line.RefusedParameter.{RefusedParameter}
 use Rattle.sl_link.specs.declared.program.command_line.RefusedParameter.TheVariants as refused
-use Rattle.sl_link.specs.declared.program.command_line.VerbName.{VerbName}
-use Rattle.sl_link.specs.declared.program.command_line.VerbName.TheVariants.{Show, Check, Packets, Normalise}
+use Rattle.sl_link.specs.declared.engine.VerbName.{VerbName}
+use Rattle.sl_link.specs.declared.engine.VerbName.TheVariants.{Show, Check, Packets, Normalise}
 
 -- ---- the arguments
 

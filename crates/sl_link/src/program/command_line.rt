@@ -8,6 +8,7 @@ ghost use Rattle.sl_link.specs.Program.CommandLine.{is_set, kind_named, link_opt
 ghost use Rattle.sl_link.specs.Program.CommandLine.{number_or, number_rule, parameters_in, text_rule, top_app};
 ghost use Rattle.sl_link.specs.Program.CommandLine.{verb_app, verb_named, with_link_options, with_vcs};
 
+use crate::engine::{RecordingKind, VerbName};
 use crate::link::managed::{Managed, ManagedFault};
 use clap::builder::ValueParser;
 use clap::error::ErrorKind;
@@ -16,28 +17,6 @@ use sl_cop::Starts;
 use sl_tcframe::VcSet;
 use std::alloc::{AllocError, Global};
 use thiserror::Error;
-
-/// What is done with a recording.
-#[derive(Clone, Copy)]
-pub(crate) enum VerbName {
-    /// Its frames are listed.
-    Show,
-    /// Its anomalies are listed.
-    Check,
-    /// Its packets are listed.
-    Packets,
-    /// The normal form of its packets is written.
-    Normalise,
-}
-
-/// Which transfer frames a recording has.
-#[derive(Clone, Copy)]
-pub(crate) enum RecordingKind {
-    /// TM transfer frames.
-    Tm,
-    /// TC transfer frames.
-    Tc,
-}
 
 /// What a command line asks for.
 #[derive(Clone, Copy)]

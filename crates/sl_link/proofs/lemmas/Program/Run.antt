@@ -10,22 +10,21 @@ use Rattle.sl_packet.specs.Sink.{one_more}
 use Rattle.sl_link.specs.declared.link.counted.Counted.{Counted}
 use Rattle.sl_link.specs.declared.link.fault.LinkFault.{LinkFault}
 use Rattle.sl_link.specs.declared.link.fault.LinkFault.TheVariants.{Memory, Write}
-use Rattle.sl_link.specs.declared.program.command_line.Asked.{Asked}
 use Rattle.sl_link.specs.Program.Answer.{EndsAsHelp, WithAnswer, WithText, version_line}
 use Rattle.sl_link.specs.Program.CommandLine.{AskForHelp, AskForVersion, IsRefusal}
 use Rattle.sl_link.specs.Io.Streams.{TranslatesWithTotals}
 use Rattle.sl_link.specs.Link.Counted.{stream_of, faults_of, HadOneFault}
-use Rattle.sl_link.specs.Program.Run.{engine_text, HasWritten, IsStoppedBy}
+use Rattle.sl_link.specs.Engine.{Engine, engine_text, HasWritten, IsStoppedBy}
 use Rattle.sl_link.specs.Link.Managed.{Parameters}
 use Rattle.sl_link.specs.Link.Totals.{Counts}
 
 module _ {R W : Type 0} {remaining : R → Option (List ℕ)} {contents : W → Option (List ℕ)} {reader reader' : Counted R} {writer mid writer' : Counted W} where
   -- where the flush fails, all of the text is in its place, but the writer had a fault
-  pub stopped_flushing : {asked : Asked} {managed : Parameters} {totals : Counts} {fault : LinkFault} → HasWritten remaining contents reader reader' writer mid asked managed totals
-      → Keeps (contents (stream_of mid)) (contents (stream_of writer')) → fault ≡ Write → HadOneFault mid writer' → IsStoppedBy remaining contents reader reader' writer writer' asked managed fault
-  stopped_flushing {asked} {managed} {fault = fault} done kept is_write failed =
+  pub stopped_flushing : {engine : Engine} {managed : Parameters} {totals : Counts} {fault : LinkFault} → HasWritten remaining contents reader reader' writer mid engine managed totals
+      → Keeps (contents (stream_of mid)) (contents (stream_of writer')) → fault ≡ Write → HadOneFault mid writer' → IsStoppedBy remaining contents reader reader' writer writer' engine managed fault
+  stopped_flushing {engine} {managed} {fault = fault} done kept is_write failed =
       let t = done.translated in
-      let text = engine_text asked.verb asked.kind managed t.octets in
+      let text = engine_text engine.0 engine.1 managed t.octets in
       record {
         cause = record {
           octets = t.octets;

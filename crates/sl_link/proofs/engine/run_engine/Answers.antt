@@ -1,4 +1,4 @@
-use Rattle.sl_link.proofs.program.run_engine.Goals as goal
+use Rattle.sl_link.proofs.engine.run_engine.Goals as goal
 
 pub returns-in-Check-Tm-clause-written : goal.returns-in-Check-Tm-clause-written
 returns-in-Check-Tm-clause-written g c = rw (c.in-Check-Tm.is-0, c.in-Check-Tm.is-1) c.check_tm.ensures.totals

@@ -1,0 +1,65 @@
+-- The engines: what is done with a recording, by the kind of its frames. What an engine writes for a recording and what
+-- it counts in it, and how it stops.
+use Rattle.std.specs.Prelude.{ℕ, List, ◌≡◌, ◌≢◌, Option}
+use Rattle.sl_link.specs.declared.engine.RecordingKind.{RecordingKind}
+use Rattle.sl_link.specs.declared.engine.RecordingKind.TheVariants.{Tm, Tc}
+use Rattle.sl_link.specs.declared.engine.VerbName.{VerbName}
+use Rattle.sl_link.specs.declared.engine.VerbName.TheVariants.{Show, Check, Packets, Normalise}
+use Rattle.sl_link.specs.declared.link.counted.Counted.{Counted}
+use Rattle.sl_link.specs.declared.link.fault.LinkFault.{LinkFault}
+use Rattle.sl_link.specs.declared.link.fault.LinkFault.TheVariants.{Memory, Write}
+use Rattle.sl_link.specs.Io.Streams.{IsRead, TranslatesWithTotals, Stops}
+use Rattle.sl_link.specs.Kind.Tc.{tc_counts}
+use Rattle.sl_link.specs.Kind.Tm.{tm_counts}
+use Rattle.sl_link.specs.Link.Managed.{Parameters}
+use Rattle.sl_link.specs.Link.Totals.{Counts}
+use Rattle.sl_link.specs.Normalise.Tc.{tc_normal_form}
+use Rattle.sl_link.specs.Normalise.Tm.{tm_normal_form}
+use Rattle.sl_link.specs.Pass.{chunk_size}
+use Rattle.sl_link.specs.Verbs.Check.Tc.{check_tc_text, check_tc_counts}
+use Rattle.sl_link.specs.Verbs.Check.Tm.{check_tm_text, check_tm_counts}
+use Rattle.sl_link.specs.Verbs.Packets.Tc.{packets_tc_text}
+use Rattle.sl_link.specs.Verbs.Packets.Tm.{packets_tm_text}
+use Rattle.sl_link.specs.Verbs.Show.Tc.{show_tc_text, show_tc_counts}
+use Rattle.sl_link.specs.Verbs.Show.Tm.{show_tm_text, show_tm_counts}
+
+-- what is done with a recording, and which frames it has
+abbrev pub Engine : Type 0
+Engine = VerbName × RecordingKind
+
+-- the listing of its frames, of its anomalies or of its packets, or the normal form of its packets
+abbrev pub engine_text : VerbName → RecordingKind → Parameters → List ℕ → List ℕ
+engine_text Show Tm = show_tm_text
+engine_text Show Tc = show_tc_text
+engine_text Check Tm = check_tm_text
+engine_text Check Tc = check_tc_text
+engine_text Packets Tm = packets_tm_text
+engine_text Packets Tc = packets_tc_text
+engine_text Normalise Tm = tm_normal_form
+engine_text Normalise Tc = tc_normal_form
+
+-- the counts of what the engine meets
+abbrev pub engine_counts : VerbName → RecordingKind → Parameters → List ℕ → Counts
+engine_counts Show Tm = show_tm_counts
+engine_counts Show Tc = show_tc_counts
+engine_counts Check Tm = check_tm_counts
+engine_counts Check Tc = check_tc_counts
+engine_counts verb Tm = tm_counts
+engine_counts verb Tc = tc_counts
+
+module _ {R W : Type 0} (remaining : R → Option (List ℕ)) (contents : W → Option (List ℕ)) where
+  -- the engine's text of a recording was written, and the totals are its counts of it
+  abbrev pub HasWritten : Counted R → Counted R → Counted W → Counted W → Engine → Parameters → Counts → Type 0
+  HasWritten reader reader' writer writer' engine managed =
+      TranslatesWithTotals remaining contents reader reader' writer writer' (engine_text engine.0 engine.1 managed)
+      (engine_counts engine.0 engine.1 managed) managed.max_octets
+
+  -- A fault stopped the engine, or the flush after it. A listing of frames needs no memory. Of a normal form
+  -- anything is written only where the writer failed, and all is read then.
+  pub record IsStoppedBy (reader reader' : Counted R) (writer writer' : Counted W) (engine : Engine)
+      (managed : Parameters) (fault : LinkFault) : Type 0 where
+    pub cause : Stops remaining contents reader reader' writer writer'
+        (engine_text engine.0 engine.1 managed) managed.max_octets chunk_size fault
+    pub not_memory : engine.0 ≡ Show → fault ≢ Memory
+    pub all_read : engine.0 ≡ Normalise → fault ≡ Write → IsRead remaining reader'
+    pub nothing : engine.0 ≡ Normalise → fault ≢ Write → writer' ≡ writer

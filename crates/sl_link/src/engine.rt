@@ -1,0 +1,64 @@
+//! The engines, by what is done with a recording and by the kind of its frames.
+ghost use Rattle.std.specs.Prelude.{IfOk, IfErr};
+ghost use Rattle.sl_link.specs.Engine.{HasWritten, IsStoppedBy};
+
+use crate::link::counted::Counted;
+use crate::link::fault::LinkFault;
+use crate::link::managed::Managed;
+use crate::link::totals::Totals;
+use crate::listings::{check_tc, check_tm, packets_tc, packets_tm, show_tc, show_tm};
+use crate::normalise::{normalise_tc, normalise_tm};
+use std::alloc::Global;
+use std::io::{Read, Write};
+
+/// What is done with a recording.
+#[derive(Clone, Copy)]
+pub enum VerbName {
+    /// Its frames are listed.
+    Show,
+    /// Its anomalies are listed.
+    Check,
+    /// Its packets are listed.
+    Packets,
+    /// The normal form of its packets is written.
+    Normalise,
+}
+
+/// Which transfer frames a recording has.
+#[derive(Clone, Copy)]
+pub enum RecordingKind {
+    /// TM transfer frames.
+    Tm,
+    /// TC transfer frames.
+    Tc,
+}
+
+/// What is done with a recording, and which frames it has.
+pub type Engine = (VerbName, RecordingKind);
+
+/// Runs an engine: for `Show` and `Tm` it is [`show_tm`], and so on.
+pub fn run_engine<R: Read, W: Write>(
+    alloc: Global,
+    engine: Engine,
+    managed: &Managed,
+    reader: &mut Counted<R>,
+    writer: &mut Counted<W>,
+) -> Result<Totals, LinkFault>
+    // All is read, the engine's text is written and nothing else, and the totals are its counts.
+    ensures written { IfOk result (HasWritten R.remaining W.contents reader.old reader.new
+        writer.old writer.new engine managed.now) }
+    // A fault has its cause, and a prefix of the text of what was read is written.
+    ensures stopped { IfErr result (IsStoppedBy R.remaining W.contents reader.old reader.new
+        writer.old writer.new engine managed.now) }
+{
+    match engine {
+        (VerbName::Show, RecordingKind::Tm) => show_tm(managed, reader, writer),
+        (VerbName::Show, RecordingKind::Tc) => show_tc(managed, reader, writer),
+        (VerbName::Check, RecordingKind::Tm) => check_tm(alloc, managed, reader, writer),
+        (VerbName::Check, RecordingKind::Tc) => check_tc(alloc, managed, reader, writer),
+        (VerbName::Packets, RecordingKind::Tm) => packets_tm(alloc, managed, reader, writer),
+        (VerbName::Packets, RecordingKind::Tc) => packets_tc(alloc, managed, reader, writer),
+        (VerbName::Normalise, RecordingKind::Tm) => normalise_tm(alloc, managed, reader, writer),
+        (VerbName::Normalise, RecordingKind::Tc) => normalise_tc(alloc, managed, reader, writer),
+    }
+}

@@ -4,3 +4,4 @@ pub mod hexadecimal;
 pub mod lines;
 pub mod output;
 pub mod streams;
+pub mod words;

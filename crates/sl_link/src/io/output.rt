@@ -1,8 +1,7 @@
 //! Lines that wait, and the writer that they go to.
-ghost use Rattle.std.specs.Prelude.{◌≡◌, ◌+◌, ◌≤◌, ◌++◌, [], length, codes, decimal, IfErr, OnErr, OnOk};
-ghost use Rattle.sl_link.specs.Io.Line.{line_at};
+ghost use Rattle.std.specs.Prelude.{◌≡◌, [], IfErr, OnErr, OnOk};
 ghost use Rattle.sl_link.specs.Io.Output.{Adds, KeepsWriter};
-ghost use Rattle.sl_link.specs.Io.Room.{HasRoom, line_width};
+ghost use Rattle.sl_link.specs.Io.Room.{HasRoom};
 ghost use Rattle.sl_link.specs.Io.Streams.{StopsWriting};
 
 use crate::io::lines::Lines;
@@ -49,16 +48,4 @@ impl<'a, W: Write> Output<'a, W> {
         self.lines.clear();
         Ok(())
     }
-}
-
-/// Adds the line of a remainder: the offset at which the remainder begins, and how many octets it has.
-pub fn push_remainder(lines: &mut Lines, offset: u64, octets: u64)
-    requires { HasRoom lines.old }
-    ensures text { lines.new ≡ lines.old ++ line_at offset (codes " rest " ++ decimal octets) }
-    ensures short { length lines.new ≤ length lines.old + line_width }
-{
-    lines.push_number(offset);
-    lines.push(b" rest ");
-    lines.push_number(octets);
-    lines.push(b"\n");
 }

@@ -283,6 +283,8 @@ fn asked_of(verb: &str, matches: &ArgMatches<'_>) -> Asked
     }
 }
 
+// The verb of this name. Words with a verb that is none of the four are refused, so the last one
+// is `normalise`.
 fn verb_named(verb: &str) -> VerbName
     ensures { result ≡ verb_named verb.now }
 {
@@ -294,6 +296,8 @@ fn verb_named(verb: &str) -> VerbName
     }
 }
 
+// The kind of this name. Words without a kind, or with one that is neither, are refused, so the
+// other one is `tc`.
 fn kind_named(kind: Option<&str>) -> RecordingKind
     ensures { result ≡ kind_named (option_map (λ t. t.now) kind.entry) }
 {

@@ -6,7 +6,8 @@ pub mod lines_tc;
 pub mod lines_tm;
 pub mod shown;
 
-use crate::io::output::{Output, Written, push_remainder};
+use crate::io::output::{Output, Written};
+use crate::io::words::push_remainder;
 use crate::link::fault::LinkFault;
 use crate::link::managed::Managed;
 use crate::link::totals::Totals;

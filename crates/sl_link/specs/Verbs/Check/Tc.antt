@@ -12,9 +12,8 @@ use Rattle.sl_tcflow.specs.Reception.{segments_of}
 use Rattle.sl_tcflow.specs.ReceptionParameters.{ReceptionParameters}
 use Rattle.sl_link.specs.Verbs.Check.Lines.{anomalies_by, check_listing, event_anomaly}
 use Rattle.sl_link.specs.Kind.Tc.{TcFinding, tc_found, tc_kind}
-use Rattle.sl_link.specs.Io.Line.{line_at}
+use Rattle.sl_link.specs.Io.Line.{line_at, tc_skip_word, verdict_word}
 use Rattle.sl_link.specs.Link.Managed.{Parameters, reception_of, tc_format}
-use Rattle.sl_link.specs.Verbs.Show.Tc.{tc_skip_word, verdict_word}
 use Rattle.sl_link.specs.Link.Totals.{Counts}
 use Rattle.sl_link.specs.Tally.{listing_counts}
 use Rattle.sl_link.specs.Verbs.Listing.{Listing, listing_text}

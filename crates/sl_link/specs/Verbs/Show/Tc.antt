@@ -3,35 +3,22 @@ use Rattle.std.specs.Prelude.{ℕ, ◌-◌, ◌==◌, Bool, if◌then◌else◌,
 use Rattle.std.specs.List.{concat}
 use Rattle.hex.specs.Hex.{encode_lower}
 use Rattle.sl_cop.specs.declared.verdict.Verdict.{Verdict}
-use Rattle.sl_cop.specs.declared.verdict.Verdict.TheVariants.{Accept, Early, Late, Outside, Refused}
-use Rattle.sl_cop.specs.declared.verdict.Verdict.TheVariants as farm
 use Rattle.sl_cop.specs.Farm.{FarmState, FarmView, farm_step}
 use Rattle.sl_cop.specs.FarmClcw.{clcw_of}
 use Rattle.sl_fields.specs.Clcw.{clcw_octets}
 use Rattle.sl_tcframe.specs.declared.tc_frame.TcSkip.{TcSkip}
-use Rattle.sl_tcframe.specs.declared.tc_frame.TcSkip.TheVariants.{Fecf, Version, Spacecraft, Long, Kind, Empty, Command}
 use Rattle.sl_tcframe.specs.TcDelimited.{tc_frames_of}
 use Rattle.sl_tcframe.specs.TcFrame.{TcView, Content, Ad, Bd, Unlock, SetVr, tc_frame}
 use Rattle.sl_tcframe.specs.VcSet.{has_vc}
 use Rattle.sl_tcflow.specs.AcceptedUnit.{event_of, views_of}
 use Rattle.sl_tcflow.specs.Farms.{farm_of}
 use Rattle.sl_tcflow.specs.Series.{header_at}
-use Rattle.sl_link.specs.Io.Line.{line_at}
+use Rattle.sl_link.specs.Io.Line.{line_at, tc_skip_word, verdict_word}
 use Rattle.sl_link.specs.Link.Managed.{Parameters, reception_of, tc_format}
 use Rattle.sl_link.specs.Link.Totals.{Counts}
 use Rattle.sl_link.specs.Verbs.Show.Shown.{show_listing}
 use Rattle.sl_link.specs.Tally.{listing_counts}
 use Rattle.sl_link.specs.Verbs.Listing.{Listing, listing_text}
-
--- why a frame is skipped
-abbrev pub tc_skip_word : TcSkip → List ℕ
-tc_skip_word Fecf = codes "fecf"
-tc_skip_word Version = codes "version"
-tc_skip_word Spacecraft = codes "spacecraft"
-tc_skip_word Long = codes "long"
-tc_skip_word Kind = codes "kind"
-tc_skip_word Empty = codes "empty"
-tc_skip_word Command = codes "command"
 
 -- the sequence flags of a segment
 abbrev pub flags_word : ℕ → List ℕ
@@ -57,15 +44,6 @@ content_text plain (Ad ns unit) = codes "ad " ++ decimal ns ++ unit_text plain u
 content_text plain (Bd unit) = codes "bd" ++ unit_text plain unit
 content_text plain Unlock = codes "unlock"
 content_text plain (SetVr vr) = codes "setvr " ++ decimal vr
-
--- what FARM-1 makes of a frame
-abbrev pub verdict_word : Verdict → List ℕ
-verdict_word Accept = codes "accept"
-verdict_word Early = codes "early"
-verdict_word Late = codes "late"
-verdict_word Outside = codes "outside"
-verdict_word Refused = codes "refused"
-verdict_word farm.Command = codes "command"
 
 -- the verdict, and the CLCW that reports the state after it
 abbrev pub step_text : ℕ → Verdict × FarmState → List ℕ

@@ -5,21 +5,14 @@ use Rattle.hex.specs.Hex.{encode_lower}
 use Rattle.sl_fields.specs.Field.{flag, bit_of}
 use Rattle.sl_fields.specs.Clcw.{ClcwFields, clcw_word}
 use Rattle.sl_tmframe.specs.declared.tm_frame.TmSkip.{TmSkip}
-use Rattle.sl_tmframe.specs.declared.tm_frame.TmSkip.TheVariants.{Fecf, Version, Spacecraft}
 use Rattle.sl_tmframe.specs.TmFrame.{TmView, DataField, Packets, Idle, Opaque, tm_frame}
 use Rattle.sl_tmframe.specs.TmDelimited.{tm_frames_of}
-use Rattle.sl_link.specs.Io.Line.{line_at}
+use Rattle.sl_link.specs.Io.Line.{line_at, tm_skip_word}
 use Rattle.sl_link.specs.Link.Managed.{Parameters, tm_format}
 use Rattle.sl_link.specs.Link.Totals.{Counts}
 use Rattle.sl_link.specs.Verbs.Show.Shown.{show_listing}
 use Rattle.sl_link.specs.Tally.{listing_counts}
 use Rattle.sl_link.specs.Verbs.Listing.{Listing, listing_text}
-
--- why a frame is skipped
-abbrev pub tm_skip_word : TmSkip → List ℕ
-tm_skip_word Fecf = codes "fecf"
-tm_skip_word Version = codes "version"
-tm_skip_word Spacecraft = codes "spacecraft"
 
 -- what a frame carries
 abbrev pub field_text : DataField → List ℕ

@@ -7,7 +7,7 @@ ghost use Rattle.sl_link.specs.Verbs.Check.Checking.{AddsAnomalies};
 ghost use Rattle.sl_link.specs.Verbs.Check.Lines.{event_anomaly, event_line, remainder_anomaly, some_text, totals_line};
 
 use crate::io::lines::Lines;
-use crate::io::output::push_remainder;
+use crate::io::words::push_remainder;
 use crate::link::totals::Totals;
 
 /// Where an anomaly is: at a frame, on a virtual channel, and in a TC recording on a MAP.

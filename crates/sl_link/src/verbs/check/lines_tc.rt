@@ -6,9 +6,9 @@ ghost use Rattle.sl_link.specs.Verbs.Check.Checking.{AddsAnomalies, is_quiet};
 ghost use Rattle.sl_link.specs.Verbs.Check.Tc.{discarded_anomaly, discards, tc_lines};
 
 use crate::io::lines::Lines;
+use crate::io::words::{push_tc_skip, push_verdict};
 use crate::kind::TcFound;
 use crate::verbs::check::lines::{Place, event_lines, push_part};
-use crate::verbs::show::lines_tc::{push_tc_skip, push_verdict};
 use sl_cop::Verdict;
 use sl_tcframe::TcSkip;
 

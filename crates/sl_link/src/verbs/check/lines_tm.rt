@@ -6,9 +6,9 @@ ghost use Rattle.sl_link.specs.Verbs.Check.Checking.{AddsAnomalies};
 ghost use Rattle.sl_link.specs.Verbs.Check.Tm.{gap_anomaly, tm_lines};
 
 use crate::io::lines::Lines;
+use crate::io::words::push_tm_skip;
 use crate::kind::TmFound;
 use crate::verbs::check::lines::{Place, event_lines, push_part};
-use crate::verbs::show::lines_tm::push_tm_skip;
 use sl_tmframe::TmSkip;
 
 /// Adds the lines of a frame, and answers how many they are.

@@ -8,7 +8,7 @@ ghost use Rattle.sl_link.specs.Io.Streams.{StopsWriting};
 
 use crate::io::lines::Lines;
 use crate::io::output::{Output, Written};
-use crate::verbs::show::lines_tm::push_flag;
+use crate::io::words::push_flag;
 use sl_fields::{PacketHeader, front};
 use std::io::Write;
 

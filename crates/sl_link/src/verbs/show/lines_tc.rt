@@ -8,11 +8,12 @@ ghost use Rattle.sl_tcflow.specs.Farms.{HaveStepped, farm_of};
 ghost use Rattle.sl_tcflow.specs.ReceptionParameters.{ReceptionParameters};
 ghost use Rattle.sl_tcflow.specs.Series.{header_at};
 ghost use Rattle.sl_link.specs.Kind.Delivery.{with_frame};
-ghost use Rattle.sl_link.specs.Io.Line.{line_at};
-ghost use Rattle.sl_link.specs.Verbs.Show.Tc.{tc_skip_word, flags_word, unit_text, content_text, verdict_word, step_text, tc_view_text, tc_frame_text};
+ghost use Rattle.sl_link.specs.Io.Line.{line_at, verdict_word};
+ghost use Rattle.sl_link.specs.Verbs.Show.Tc.{flags_word, unit_text, content_text, step_text, tc_view_text, tc_frame_text};
 ghost use Rattle.sl_link.specs.Io.Room.{HasRoom, HasRoomFor, fields_width, number_width, part_width, text_width, words_width};
 
 use crate::io::lines::Lines;
+use crate::io::words::{push_tc_skip, push_verdict};
 use sl_cop::Verdict;
 use sl_fields::{SegmentHeader, front};
 use sl_tcflow::Farms;
@@ -40,25 +41,6 @@ pub fn tc_frame_line(
         Err(reason) => push_tc_skip(lines, *reason),
     }
     lines.push(b"\n");
-}
-
-/// Adds why a frame is skipped.
-#[cold]
-pub fn push_tc_skip(lines: &mut Lines, reason: TcSkip)
-    requires { HasRoomFor number_width lines.old }
-    ensures text { lines.new ≡ lines.old ++ (codes " skip " ++ tc_skip_word reason) }
-    ensures short { length lines.new ≤ length lines.old + number_width }
-{
-    lines.push(b" skip ");
-    lines.push_text(match reason {
-        TcSkip::Fecf => b"fecf",
-        TcSkip::Version => b"version",
-        TcSkip::Spacecraft => b"spacecraft",
-        TcSkip::Long => b"long",
-        TcSkip::Kind => b"kind",
-        TcSkip::Empty => b"empty",
-        TcSkip::Command => b"command",
-    });
 }
 
 fn push_tc_view(lines: &mut Lines, plain: bool, farms: &mut Farms, frame: &TcFrame)
@@ -104,23 +86,6 @@ fn push_frame_verdict(lines: &mut Lines, verdict: Verdict)
             lines.push(b" clcw ");
         }
     }
-}
-
-/// Adds a verdict.
-#[cold]
-pub fn push_verdict(lines: &mut Lines, verdict: Verdict)
-    requires { HasRoomFor number_width lines.old }
-    ensures text { lines.new ≡ lines.old ++ (codes " " ++ verdict_word verdict) }
-    ensures short { length lines.new ≤ length lines.old + number_width }
-{
-    lines.push_text(match verdict {
-        Verdict::Accept => b" accept",
-        Verdict::Early => b" early",
-        Verdict::Late => b" late",
-        Verdict::Outside => b" outside",
-        Verdict::Refused => b" refused",
-        Verdict::Command => b" command",
-    });
 }
 
 fn push_content(lines: &mut Lines, plain: bool, carried: TcContent)

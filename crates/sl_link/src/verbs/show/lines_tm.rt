@@ -1,12 +1,12 @@
 //! The lines of a TM recording's listing.
-ghost use Rattle.std.specs.Prelude.{◌≡◌, ◌+◌, ◌≤◌, ◌++◌, length, decimal, codes};
-ghost use Rattle.sl_fields.specs.Field.{bit_of};
+ghost use Rattle.std.specs.Prelude.{◌≡◌, ◌+◌, ◌≤◌, ◌++◌, length};
 ghost use Rattle.sl_tmframe.specs.TmField.{data_field};
 ghost use Rattle.sl_link.specs.Io.Line.{line_at};
-ghost use Rattle.sl_link.specs.Verbs.Show.Tm.{clcw_fields_text, word_text, control_text, tm_skip_word, field_text, counts_text, tm_view_text, tm_frame_text};
-ghost use Rattle.sl_link.specs.Io.Room.{HasRoom, HasRoomFor, fields_width, number_width, part_width, text_width, words_width};
+ghost use Rattle.sl_link.specs.Verbs.Show.Tm.{clcw_fields_text, word_text, control_text, field_text, counts_text, tm_view_text, tm_frame_text};
+ghost use Rattle.sl_link.specs.Io.Room.{HasRoom, HasRoomFor, fields_width, part_width, text_width, words_width};
 
 use crate::io::lines::Lines;
+use crate::io::words::{push_flag, push_tm_skip};
 use sl_fields::Clcw;
 use sl_tmframe::{TmField, TmFrame, TmSkip};
 
@@ -21,20 +21,6 @@ pub fn tm_frame_line(lines: &mut Lines, offset: u64, read: &Result<TmFrame, TmSk
         Err(reason) => push_tm_skip(lines, *reason),
     }
     lines.push(b"\n");
-}
-
-/// Adds why a frame is skipped.
-pub fn push_tm_skip(lines: &mut Lines, reason: TmSkip)
-    requires { HasRoomFor number_width lines.old }
-    ensures text { lines.new ≡ lines.old ++ (codes " skip " ++ tm_skip_word reason) }
-    ensures short { length lines.new ≤ length lines.old + number_width }
-{
-    lines.push(b" skip ");
-    lines.push_text(match reason {
-        TmSkip::Fecf => b"fecf",
-        TmSkip::Version => b"version",
-        TmSkip::Spacecraft => b"spacecraft",
-    });
 }
 
 fn push_tm_view(lines: &mut Lines, frame: &TmFrame)
@@ -124,17 +110,4 @@ fn push_clcw(lines: &mut Lines, clcw: &Clcw)
     lines.push_small_number(clcw.farm_b());
     lines.push(b" vr ");
     lines.push_small_number(clcw.report());
-}
-
-/// Adds a flag as 0 or 1.
-pub fn push_flag(lines: &mut Lines, is_set: bool)
-    requires { HasRoomFor 1 lines.old }
-    ensures text { lines.new ≡ lines.old ++ decimal (bit_of is_set) }
-    ensures short { length lines.new ≡ length lines.old + 1 }
-{
-    if is_set {
-        lines.push(b"1");
-    } else {
-        lines.push(b"0");
-    }
 }

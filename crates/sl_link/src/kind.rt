@@ -165,6 +165,8 @@ impl Delivery for Extractor {
             Ok(view) => view,
             Err(reason) => return Ok((SKIPPED, Err(reason))),
         };
+        // A `match`, here and below: at this exit clauses are owed for each list of earlier frames,
+        // and `?` would have to be proved to hand on the same fault.
         let step = match self.frame(&view, sink) {
             Ok(step) => step,
             Err(fault) => return Err(fault),

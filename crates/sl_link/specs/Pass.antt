@@ -17,13 +17,13 @@ chunk_size = 0x10000
 
 -- ---- framers
 
--- The octets that waited, `rest`, and those from the front of a chunk are a frame. Of the chunk `left` is left.
+-- The octets that waited, `rest`, and those from the front of a chunk are a frame. `left` is the rest of the chunk.
 pub record CutsFrame (is_frame : List ℕ → Type 0) (rest chunk left frame : List ℕ) : Type 0 where
   pub parts : rest ++ chunk ≡ frame ++ left
   pub some : length left < length chunk
   pub whole : is_frame frame
 
--- `holds` is true whatever octets wait in the framer, and under whichever parameters
+-- `holds` is true for all octets that may wait in the framer, and under all parameters
 abbrev pub WaitsFor : {F : Type 0} → (F → Parameters → List ℕ → Type 0) → F → (Parameters → List ℕ → Type 0) → Type 0
 WaitsFor waits framer holds = (p : Parameters) (rest : List ℕ) → waits framer p rest → holds p rest
 
@@ -44,7 +44,7 @@ pub record MayTake {S : Type 0} (took : S → S → List (List ℕ) → Type 0) 
   pub whole : is_frame frame
   pub fits : length (concat before) + length frame < 2 ^ 64
 
--- `holds` is true whichever frames the sink has taken, and since whichever value `start`
+-- `holds` is true for every list of frames that the sink has taken, and every value `start` that it began with
 abbrev pub After : {S : Type 0} → (S → S → List (List ℕ) → Type 0) → S → (S → List (List ℕ) → Type 0) → Type 0
 After {S} took now holds = (start : S) (before : List (List ℕ)) → took start now before → holds start before
 
@@ -95,8 +95,8 @@ pub record MayRefuseMemoryIn (frames_of : List ℕ → List (List ℕ)) (may_ref
 
 -- ---- the frames of one chunk
 
--- These frames are at the front of the octets so far, and this is true of them, as that a sink
--- took them. What came after them waits in the framer, but for `left`, which it hasn't seen.
+-- These frames are at the front of the octets so far, and `taken` holds of them. What came after them waits in the
+-- framer, but for `left`, which it hasn't seen.
 pub record HasCutFrames {F : Type 0} (is_frame : Parameters → List ℕ → Type 0)
     (waits : F → Parameters → List ℕ → Type 0) (taken : List (List ℕ) → Type 0) (p : Parameters)
     (framer : F) (octets left : List ℕ) : Type 0 where

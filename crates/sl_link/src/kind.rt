@@ -20,7 +20,7 @@ use std::alloc::Global;
 use std::marker::Model;
 
 /// Delivers the packets of frames of one kind, and reports what is found of the frames. These are
-/// given one after another. A clause with `before` holds whichever frames were given before.
+/// given one after another. A clause with `before` holds for every list of frames given before.
 pub trait Delivery: Drop {
     ghost use Rattle.sl_link.specs.Link.Managed.{Parameters};
     ghost use Rattle.sl_link.specs.Kind.Delivery.{IsWithin, Kind};
@@ -37,8 +37,8 @@ pub trait Delivery: Drop {
     /// Whether the state is the one after these frames, processed in this order.
     ghost has_processed: { Self → Parameters → List (List ℕ) → Type 0 };
 
-    /// Whether something is incomplete before or after the last of these frames, on its channel. Of a TC frame the unit
-    /// is accepted then.
+    /// Whether something is incomplete before or after the last of these frames, on its channel.
+    /// For TC this implies that the frame's unit was accepted.
     ghost is_incomplete_at_last: { Parameters → List (List ℕ) → Type 0 };
 
     /// What is found of a frame that comes after others.
@@ -71,7 +71,8 @@ pub trait Delivery: Drop {
             → has_processed self.old managed.now before
             → IsStopped S.taking S.failing S.failures sink.old ((kind managed.now).channel frame.now)
             (without_idle ((kind managed.now).ended before frame.now)) fault sink.new) }
-        // The fault is `Memory` only where something is incomplete. A sink that is refused memory has another fault.
+        // The fault is `Memory` only where something is incomplete. A sink that is refused memory
+        // has another fault.
         ensures memory { IfErr result (λ fault. (before : List (List ℕ))
             → has_processed self.old managed.now before → fault ≡ FlowFault.Memory
             → is_incomplete_at_last managed.now (before ++ frame.now ∷ [])) };

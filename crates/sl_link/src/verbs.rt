@@ -19,8 +19,9 @@ use crate::pass::{FrameSink, Framer, read_recording};
 use std::io::{Read, Write};
 
 /// A verb that lists, `show`, `check` or `packets`, for one kind of frames. A clause with `before`
-/// or `frames` holds whichever frames were listed before. Also after a fault the output has the writer
-/// that was lent (`lent`), and a beginning of what waited and was to be added is written (`fault`).
+/// or `frames` holds for every list of frames listed before. After a fault too, the output still
+/// holds the lent writer (`lent`), and a prefix of the waiting and new lines has been written
+/// (`fault`).
 pub trait Verb {
     ghost use Rattle.sl_link.specs.Link.Managed.{Parameters};
     ghost use Rattle.sl_link.specs.Verbs.Listing.{Frames, Listing};
@@ -53,7 +54,8 @@ pub trait Verb {
             (out.old.lines ++ (listing managed.now).line before frame.now)
             (may_refuse_memory managed.now (before ++ frame.now ∷ [])) fault) };
 
-    /// Adds the lines after the last frame of a recording of `octets` octets, and answers the totals.
+    /// Adds the lines after the last frame of a recording of `octets` octets, and answers the
+    /// totals.
     fn finish<W: Write>(
         &self,
         managed: &Managed,
@@ -95,8 +97,8 @@ impl<'a, 'b, 'c, W: Write, V: Verb> FrameSink for Lister<'a, 'b, 'c, W, V> {
         × (now.out.ghost_name ≡ start.out.ghost_name) × V.has_listed now.verb.now p frames
         × Adds W.contents start.out.now (lines_from (V.listing p).line [] frames) now.out.now };
 
-    // The output and its writer are those that were lent, and a beginning of what waited and of the lines of these
-    // frames was written.
+    // The output and its writer are those that were lent, and a prefix of the waiting lines and
+    // those of these frames was written.
     ghost stopped = { λ p start now frames fault. (now.out.ghost_name ≡ start.out.ghost_name)
         × KeepsWriter start.out.now now.out.now
         × StopsWriting W.contents start.out.now.writer.now now.out.now.writer.now

@@ -8,7 +8,7 @@ use itoa::{Buffer, write_digits};
 /// digits of one long number. A long number is one of five digits or more.
 #[derive(Drop)]
 pub struct Decimals {
-    // For each octet three places that begin with its digits, and a fourth that says how many digits these are.
+    // For each octet three places that begin with its digits, and a fourth with their number.
     octets: [[u8; 4]; 256],
     leading: Leading,
     ghost in_decimal: { (n : ℕ) → n < 256 → AreDigits n (slice_index_or octets n []) },
@@ -33,7 +33,8 @@ impl Decimals {
         }
     }
 
-    /// An octet in decimal: places that begin with its digits, and how many digits these are, 3 at most.
+    /// An octet in decimal: places that begin with its digits, and how many digits these are, 3 at
+    /// most.
     #[inline(always)]
     pub fn of_octet(&self, octet: u8) -> ([u8; 4], usize)
         ensures digits { take result.1 result.0 ≡ decimal octet }
@@ -78,7 +79,8 @@ impl Decimals {
         Some((self.leading.places, self.leading.many))
     }
 
-    /// The same, where the digits of `number` aren't kept: they are worked out, and kept for the next call.
+    /// The same, where the digits of `number` aren't kept: they are worked out, and kept for the
+    /// next call.
     pub fn new_leading(&mut self, number: u64) -> ([u8; 16], usize)
         requires { number * 10000 < 2 ^ 64 }
         ensures digits { take result.1 result.0 ≡ decimal number }
@@ -93,7 +95,8 @@ fn leading_of(number: u64) -> Leading
     requires { number * 10000 < 2 ^ 64 }
     ensures { result.number ≡ number }
 {
-    // The digits, 16 at most, end in the middle of the 32 places. So 16 places follow wherever they begin.
+    // The digits, 16 at most, end in the middle of the 32 places. So 16 places follow wherever they
+    // begin.
     let mut digits = [0; 32];
     let start = write_digits(number, &mut digits, 16);
     let mut places = [0; 16];

@@ -11,7 +11,8 @@ use std::marker::Model;
 /// The size of the buffer that lines wait in.
 pub const LINES_SIZE: usize = 0x10000;
 
-/// Octets that are kept free in that buffer: the lines of one frame have no more, those of its packets left out.
+/// Octets that are kept free in that buffer: the lines of a frame, those of its packets aside, take
+/// no more.
 pub const RESERVE: usize = 1024;
 
 /// Lines of a listing that are not written yet, 65536 octets at most.
@@ -87,7 +88,7 @@ impl Lines {
     }
 
     /// Adds the first `many` octets of a text whose length is known when the program is built.
-    /// There is to be room for all of the text, since all of it is copied.
+    /// There has to be room for all of the text, since all of it is copied.
     #[inline(always)]
     pub fn push_first<const N: usize>(&mut self, text: &[u8; N], many: usize)
         requires room { HasRoomFor N self.old }
@@ -132,7 +133,7 @@ impl Lines {
         if number >= 10_000 {
             match self.decimals.leading(number / 10_000) {
                 Some(leading) => self.push_two(leading, &last),
-                // This call is the last thing done, so the way above saves no registers for it.
+                // A call in last place, so that the other arm needn't save registers for it.
                 None => self.push_anew(number / 10_000, &last),
             }
         } else if number >= 1000 {
@@ -203,8 +204,8 @@ impl Lines {
     }
 }
 
-// Writes a text into a buffer, from the place `at` on. The text is copied first: of a copy the
-// compiler knows that it can't overlap the buffer.
+// Writes a text into a buffer, from the place `at` on. Copying first tells the compiler that text
+// and buffer don't overlap.
 #[inline(always)]
 fn put<const N: usize>(buffer: &mut [u8], at: usize, text: &[u8; N])
     requires { at + N ≤ length buffer.old }

@@ -14,7 +14,8 @@ use crate::pass::CHUNK_SIZE;
 use std::alloc::Global;
 use std::io::Write;
 
-/// Octets enough for those that aren't written yet, 0x10000 at most, and a piece of either kind, 0x30000 at most.
+/// Room for the octets that aren't written yet, 0x10000 at most, and for a piece of either kind,
+/// 0x30000 at most.
 const FORM_SIZE: usize = 0x40000;
 
 /// A normal form that is made piece by piece, so that it need not be held whole.
@@ -27,7 +28,7 @@ pub trait Form {
     /// These octets are still to come.
     ghost left: { Self → List ℕ → Type 0 };
 
-    /// The form is one of packets, at least one.
+    /// The form has at least one packet.
     ghost packets: { Self → Type 0 };
 
     /// The form has taken the memory that it wants for itself.
@@ -56,7 +57,8 @@ pub trait Form {
         ensures keeps { ready self.old → ready self.new }
         ensures capacity { vec_capacity text.old ≤ vec_capacity text.new };
 
-    /// Takes the memory that the form wants for itself. The text has room for a piece, and keeps its octets.
+    /// Takes the memory that the form wants for itself. The text has room for a piece, and keeps
+    /// its octets.
     fn reserve(&mut self, text: &mut Vec<u8>) -> Result<(), LinkFault>
         requires room { vec_len text.old + piece_size ≤ vec_capacity text.old }
         ensures ready { OnOk result (ready self.new) }
@@ -95,7 +97,7 @@ pub fn write_form<F: Form, W: Write>(
     write_text(writer, text.as_slice())
 }
 
-// Writes octets that wait, where they are more than a chunk.
+// Writes the octets that wait, if they are more than a chunk.
 fn write_chunk<W: Write>(writer: &mut Counted<W>, waiting: &mut Vec<u8>) -> Result<(), LinkFault>
     ensures kept { OnOk result
         (AddsText W.contents writer.old writer.new waiting.old.items waiting.new.items []) }

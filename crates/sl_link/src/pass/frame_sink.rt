@@ -6,8 +6,8 @@ ghost use Rattle.sl_link.specs.Pass.{After, MayTake};
 use crate::link::fault::LinkFault;
 use crate::link::managed::Managed;
 
-/// Takes the frames of a recording, one after another. A clause with `After` holds whichever frames
-/// the sink had taken, and since whichever value.
+/// Takes the frames of a recording, one after another. A clause with `After` holds for every list
+/// of frames already taken, and every value the sink began with.
 pub trait FrameSink {
     ghost use Rattle.sl_link.specs.declared.link.fault.LinkFault.{LinkFault};
 

@@ -17,8 +17,8 @@ pub trait Framer {
     /// The framer waits: these octets came after the last frame that it cut.
     ghost waits: { Self → Parameters → List ℕ → Type 0 };
 
-    /// Takes octets from the front of the chunk up to the end of a frame, and lends that frame. `None` where the
-    /// chunk completes no frame: the octets of all of it then wait for the next chunk.
+    /// Takes octets from the front of the chunk up to the end of a frame, and lends that frame.
+    /// `None` where the chunk completes no frame: all its octets then wait for the next chunk.
     fn next_frame<'a, 'p: 'a>(&'a mut self, chunk: &mut &'p [u8]) -> Option<&'a [u8]>
         requires { (p : Parameters) × (rest : List ℕ) × waits self.old p rest }
         ensures frame { IfSome result (λ frame. WaitsFor waits self.old

@@ -40,8 +40,8 @@ pub fn event_lines(
     1
 }
 
-// Adds the line of an event. Its place comes as numbers: a `Place` was stored before each test, also
-// where there is no anomaly. That was measured.
+// Adds the line of an event. Takes plain numbers: given a `Place`, the compiler stored it before
+// every test (measured).
 fn event_line(
     lines: &mut Lines,
     offset: u64,
@@ -63,7 +63,8 @@ fn event_line(
     lines.push(b"\n");
 }
 
-/// Adds the line of the remainder, where there is one, and answers how many lines that is: one or none.
+/// Adds the line of the remainder, where there is one, and answers how many lines that is: one or
+/// none.
 pub fn remainder_lines(lines: &mut Lines, offset: u64, octets: u64) -> u64
     requires { HasRoom lines.old }
     ensures text { lines.new ≡ lines.old ++ concat (remainder_anomaly offset octets) }

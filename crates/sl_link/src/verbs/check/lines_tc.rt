@@ -58,8 +58,8 @@ fn discards(verdict: Verdict) -> bool
     }
 }
 
-// The lines of the anomalies, in their order. It takes `found` by value, and isn't inlined, so that a frame
-// with no lines needs not store it: that was measured.
+// The lines of the anomalies, in their order. Takes `found` by value and isn't inlined, so that a
+// frame without lines needn't store it (measured).
 #[cold]
 #[inline(never)]
 fn tc_found_lines(lines: &mut Lines, offset: u64, found: TcFound) -> u64

@@ -77,7 +77,8 @@ fn print_packet<W: Write>(
 {
     out.make_room()?;
     push_channel(&mut out.lines, kind, channel);
-    // After this call the whole line was added; or, at a fault, a beginning of what waited and of the line was written.
+    // After this call the whole line was added; or, at a fault, a prefix of the waiting lines and
+    // this one was written.
     push_packet_text(out, packet)?;
     Ok(())
 }

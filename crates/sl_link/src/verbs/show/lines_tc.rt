@@ -72,8 +72,8 @@ fn push_step(lines: &mut Lines, farms: &mut Farms, frame: &TcFrame)
     lines.push_hex_word(&farms.clcw(frame.vc()).write());
 }
 
-// Adds the verdict on a frame, and the name of what follows. Nearly all frames are accepted, and their text is pushed
-// at once: that was measured.
+// Adds the verdict on a frame, and the name of what follows. Nearly all frames are accepted, so
+// their text is pushed at once (measured).
 fn push_frame_verdict(lines: &mut Lines, verdict: Verdict)
     requires { HasRoomFor words_width lines.old }
     ensures text { lines.new ≡ lines.old ++ (codes " " ++ verdict_word verdict ++ codes " clcw ") }
@@ -154,7 +154,8 @@ fn split_unit(unit: &[u8]) -> (SegmentHeader, &[u8])
     (SegmentHeader::read(header), octets)
 }
 
-// The flags can't be foreseen. So one of the texts is chosen and pushed, filled up to the longest: that was measured.
+// The branch is unpredictable, so all four texts are padded to one length and pushed alike
+// (measured).
 fn push_flags(lines: &mut Lines, flags: u8)
     requires room { HasRoomFor number_width lines.old }
     requires fits { flags < 4 }

@@ -27,23 +27,29 @@ pub record HasText (text : List ℕ) (counts : Counts) (old new : Lent) : Type 0
   pub totals : counts_of_totals new.totals ≡ counts
 
 -- the text is given under the parameters `p`, and the answer says whether there was room for all of it
-pub record LeavesText (text : Parameters → List ℕ → List ℕ) (counts : Parameters → List ℕ → Counts) (recording : List ℕ) (old new : Lent) (answer : ℕ) (p : Parameters) : Type 0 where
+pub record LeavesText (text : Parameters → List ℕ → List ℕ) (counts : Parameters → List ℕ → Counts)
+    (recording : List ℕ) (old new : Lent) (answer : ℕ) (p : Parameters) : Type 0 where
   pub written : HasText (text p recording) (counts p recording) old new
   pub fits : length (text p recording) ≤ length old.output → Says answer Done
   pub room : length old.output < length (text p recording) → Says answer Room
 
 -- What a call answers and leaves: why the recording isn't read, or that memory was refused, and
 -- then all is as it was; or the text and its outcome.
-pub record GivesText (text : Parameters → List ℕ → List ℕ) (counts : Parameters → List ℕ → Counts) (m : ManagedFields) (recording : List ℕ) (old new : Lent) (answer : ℕ) : Type 0 where
+pub record GivesText (text : Parameters → List ℕ → List ℕ) (counts : Parameters → List ℕ → Counts)
+    (m : ManagedFields) (recording : List ℕ) (old new : Lent) (answer : ℕ) : Type 0 where
   pub refused : IfErr (reading_of m (length recording)) (λ refusal. Says answer refusal × (new ≡ old))
-  pub read : IfOk (reading_of m (length recording)) (λ p. (Says answer Memory × (new ≡ old)) ⊎ LeavesText text counts recording old new answer p)
+  pub read : IfOk (reading_of m (length recording)) (λ p. (Says answer Memory × (new ≡ old))
+      ⊎ LeavesText text counts recording old new answer p)
 
 -- ---- whether two recordings deliver the same packets
 
 -- What a call answers and leaves: why the recordings aren't read; or that memory was refused, where
 -- one of the recordings allows it; and then all is as it was. Or true exactly where the packets of
 -- both are the same.
-pub record ComparesPackets (packets : Parameters → List ℕ → List (List (List ℕ))) (may_refuse_memory : Parameters → List ℕ → Type 0) (m : ManagedFields) (one other : List ℕ) (same same' : Bool) (answer : ℕ) : Type 0 where
+pub record ComparesPackets (packets : Parameters → List ℕ → List (List (List ℕ)))
+    (may_refuse_memory : Parameters → List ℕ → Type 0) (m : ManagedFields) (one other : List ℕ)
+    (same same' : Bool) (answer : ℕ) : Type 0 where
   pub refused : IfErr (reading_of m (max (length one) (length other))) (λ refusal. Says answer refusal × (same' ≡ same))
-  pub read : IfOk (reading_of m (max (length one) (length other))) (λ p. (Says answer Memory × (same' ≡ same) × (may_refuse_memory p one ⊎ may_refuse_memory p other))
+  pub read : IfOk (reading_of m (max (length one) (length other))) (λ p.
+      (Says answer Memory × (same' ≡ same) × (may_refuse_memory p one ⊎ may_refuse_memory p other))
       ⊎ (Says answer Done × (IsTrue same' ↔ (packets p one ≡ packets p other))))

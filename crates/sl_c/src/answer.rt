@@ -2,7 +2,8 @@
 ghost use Rattle.std.specs.Prelude.{◌≡◌};
 ghost use Rattle.sl_c.specs.Answer.{answer_number};
 
-/// How a call ended, which C sees as a number: the first variant is 0, and each other one more than the one before it.
+/// How a call ended, which C sees as a number: the first variant is 0, and each other one more than
+/// the one before it.
 #[derive(Clone, Copy)]
 pub enum Answer {
     /// All is done.
@@ -21,7 +22,8 @@ pub enum Answer {
     TooLong,
     /// Memory was refused.
     Memory,
-    /// All is done, but only the front of the text was written: there was no room for the whole text.
+    /// All is done, but only the front of the text was written: there was no room for the whole
+    /// text.
     Room,
     /// A field of a header is out of the range of its bits.
     Field,

@@ -10,7 +10,8 @@ pub extern "C" fn sllink_fecf(octets: &[u8]) -> u16
     sl_fields::fecf(octets)
 }
 
-/// Whether there are three octets or more and the last two are the frame error control field of those before them.
+/// Whether there are three octets or more and the last two are the frame error control field of
+/// those before them.
 #[unsafe(no_mangle)]
 pub extern "C" fn sllink_fecf_good(octets: &[u8]) -> bool
     ensures { result ≡ fecf_is_good octets.now }

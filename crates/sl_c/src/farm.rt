@@ -9,8 +9,9 @@ ghost use Rattle.sl_c.specs.Farm.{IsKeptFarm, IsNoFarm, numbered_event, number_o
 use crate::answer::Answer;
 use sl_cop::{Farm, FarmEvent, Verdict, Window};
 
-/// A FARM-1: the width of its window, even, 2 to 254; V(R); the Lockout flag; the Retransmit flag; and the FARM-B
-/// counter, 0 to 3. C may write other values, under which a step and a CLCW are refused.
+/// A FARM-1: the width of its window, even, 2 to 254; V(R); the Lockout flag; the Retransmit flag;
+/// and the FARM-B counter, 0 to 3. C may write other values, under which a step and a CLCW are
+/// refused.
 #[repr(C)]
 #[derive(Clone, Copy)]
 pub struct FarmFields {
@@ -21,8 +22,9 @@ pub struct FarmFields {
     pub farm_b: u8,
 }
 
-/// Makes a FARM-1 in the open state, with a window of this width, this V(R), Retransmit flag 0 and FARM-B counter 0.
-/// The answer is `Done`. Where the width is 0 or odd the answer is `Window`, and nothing is written.
+/// Makes a FARM-1 in the open state, with a window of this width, this V(R), Retransmit flag 0 and
+/// FARM-B counter 0. The answer is `Done`. Where the width is 0 or odd the answer is `Window`, and
+/// nothing is written.
 #[unsafe(no_mangle)]
 pub extern "C" fn sllink_farm_new(farm: &mut FarmFields, window: u8, vr: u8) -> u32
     ensures made { IsWidth window → Says result Answer.Done
@@ -38,9 +40,10 @@ pub extern "C" fn sllink_farm_new(farm: &mut FarmFields, window: u8, vr: u8) -> 
     }
 }
 
-/// Takes the next frame of the virtual channel: writes FARM-1's verdict on the frame to `verdict`, and the state
-/// after the frame to `farm`. The answer is `Done`. Where `farm` is no FARM-1 the answer is `Window` or `Counter`,
-/// and where there is no such event `Event`. Nothing is written then.
+/// Takes the next frame of the virtual channel: writes FARM-1's verdict on the frame to `verdict`,
+/// and the state after the frame to `farm`. The answer is `Done`. Where `farm` is no FARM-1 the
+/// answer is `Window` or `Counter`, and where there is no such event `Event`. Nothing is written
+/// then.
 ///
 /// The event is 0 for a frame of type AD, whose N(S) is `number`; 1 for a frame of type BD; 2 for
 /// Unlock; and 3 for Set V(R) to `number`. The verdict is 0 for `Accept`, and 1 to 5 for `Early`,
@@ -61,7 +64,8 @@ pub extern "C" fn sllink_farm_step(
     // or why there is none, and all is as it was.
     ensures window { (IsWidth farm.old.window → ⊥) → Says result Answer.Window }
     ensures counter { IsWidth farm.old.window → 3 < farm.old.farm_b → Says result Answer.Counter }
-    ensures event { IsKeptFarm farm.old → IfNone (numbered_event event number) (Says result Answer.Event) }
+    ensures event { IsKeptFarm farm.old
+        → IfNone (numbered_event event number) (Says result Answer.Event) }
     ensures kept { result ≢ 0 → (farm.new ≡ farm.old) × (verdict.new ≡ verdict.old) }
 {
     let mut stepped = match restored(farm) {

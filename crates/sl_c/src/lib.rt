@@ -1,5 +1,5 @@
-//! The libraries' calls for programs in C and for what calls C: whole recordings in memory, FARM-1 on one virtual
-//! channel, the headers, and the frame error control field.
+//! The libraries' calls for programs in C and for what calls C: whole recordings in memory, FARM-1
+//! on one virtual channel, the headers, and the frame error control field.
 //!
 //! Each call is an export of a static library and does what one call of the libraries does.
 //! `include/sllink.h` has the calls as C sees them, and what C has to uphold, which nothing checks.

@@ -11,8 +11,9 @@ use sl_tcframe::VcSet;
 /// How many virtual channels of TC frames there are.
 const VIRTUAL_CHANNELS: usize = 64;
 
-/// The managed parameters of a link, in the ranges of [`Managed::new`]. `vr` has the initial V(R) of each virtual
-/// channel of TC frames, and `plain` whether the frames of a virtual channel have no segment headers.
+/// The managed parameters of a link, in the ranges of [`Managed::new`]. `vr` has the initial V(R)
+/// of each virtual channel of TC frames, and `plain` whether the frames of a virtual channel have
+/// no segment headers.
 #[repr(C)]
 #[derive(Clone, Copy)]
 pub struct ManagedFields {
@@ -40,8 +41,9 @@ pub struct TotalsFields {
     pub anomalies: u64,
 }
 
-/// The managed parameters, where recordings of at most `octets` octets are to be read. Or why they aren't read: the
-/// answer for the first parameter that is refused, or `TooLong` where `octets` is over the limit.
+/// The managed parameters, where recordings of at most `octets` octets are to be read. Or why they
+/// aren't read: the answer for the first parameter that is refused, or `TooLong` where `octets` is
+/// over the limit.
 pub fn managed_for(fields: &ManagedFields, octets: usize) -> Result<Managed, Answer>
     ensures { result ≡ reading_of fields.now octets }
 {
@@ -97,7 +99,8 @@ fn refusal(fault: ManagedFault) -> Answer
     }
 }
 
-// The virtual channels whose flag is set, from the last flag to the first: a number is put before greater ones.
+// The virtual channels whose flag is set, from the last flag to the first: a number is put before
+// greater ones.
 fn plain_of(flags: &[bool; 64]) -> VcSet
     ensures { result ≡ numbers_from 0 flags.now }
 {

@@ -48,7 +48,8 @@ pub extern "C" fn sllink_show_tm(
     )
 }
 
-/// Lists the frames of a recording of TC transfer frames, with FARM-1's verdict on each and the CLCW after it.
+/// Lists the frames of a recording of TC transfer frames, with FARM-1's verdict on each and the
+/// CLCW after it.
 #[unsafe(no_mangle)]
 pub extern "C" fn sllink_show_tc(
     alloc: Global,
@@ -260,8 +261,9 @@ fn lend(text: &[u8], output: &mut [u8]) -> u32
     Answer::Done.number()
 }
 
-// The text that an engine makes of a recording, and what it counts, or `None` where memory was refused. There is no
-// other fault: the reader and the writer are memory, and the recording is within the limit.
+// The text that an engine makes of a recording, and what it counts, or `None` where memory was
+// refused. There is no other fault: the reader and the writer are memory, and the recording is
+// within the limit.
 fn read_whole(
     alloc: Global,
     engine: Engine,

@@ -35,9 +35,9 @@ pub extern "C" fn sllink_same_packets_tm(
 
 /// Writes to `same` whether FARM-1 lets the same packets of two recordings of TC transfer frames
 /// through on each virtual channel and MAP, idle packets left out. The answer is `Done`. Under any
-/// other, a refused parameter, `TooLong` or `Memory`, nothing is written. `Memory` comes only where,
-/// in one of the recordings, a series is incomplete before a frame or after it, or a packet was
-/// delivered.
+/// other, a refused parameter, `TooLong` or `Memory`, nothing is written. `Memory` comes only
+/// where, in one of the recordings, a series is incomplete before a frame or after it, or a packet
+/// was delivered.
 #[unsafe(no_mangle)]
 pub extern "C" fn sllink_same_packets_tc(
     alloc: Global,
@@ -56,8 +56,8 @@ pub extern "C" fn sllink_same_packets_tc(
     hand_out(same_packets_in_memory_tc(alloc, &managed, one, other), same)
 }
 
-// Writes what was found, and answers `Done`. After a fault the answer is `Memory`: neither recording
-// is over the limit, so there is no other fault.
+// Writes what was found, and answers `Done`. After a fault the answer is `Memory`: neither
+// recording is over the limit, so there is no other fault.
 fn hand_out(found: Result<bool, LinkFault>, same: &mut bool) -> u32
     ensures found { IfOk found (λ is_same. Says result Answer.Done × (same.new ≡ is_same)) }
     ensures refused { OnErr found (Says result Answer.Memory × (same.new ≡ same.old)) }

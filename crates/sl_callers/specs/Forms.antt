@@ -5,4 +5,5 @@ use Rattle.sl_link.specs.declared.link.fault.LinkFault.TheVariants.{Memory, TooL
 
 -- At Ok the octets are no more than the limit. The fault is `Memory`, or `TooLong` where they are more.
 abbrev pub KeepsLimit : {T : Type 0} → ℕ → ℕ → Result T LinkFault → Type 0
-KeepsLimit limit octets result = OnOk result (octets ≤ limit) × IfErr result (λ fault. (fault ≡ Memory) ⊎ ((fault ≡ TooLong) × (limit < octets)))
+KeepsLimit limit octets result =
+    OnOk result (octets ≤ limit) × IfErr result (λ fault. (fault ≡ Memory) ⊎ ((fault ≡ TooLong) × (limit < octets)))

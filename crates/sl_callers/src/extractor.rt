@@ -11,8 +11,8 @@ use sl_tmframe::TmFrame;
 use std::alloc::Global;
 
 /// The packets of frames that are given to an extractor one after another. Each virtual channel's
-/// list is what its frames deliver, idle packets left out. The fault is `Memory` where the extractor
-/// was refused memory, and `Sink(Memory)` where the store was.
+/// list is what its frames deliver, idle packets left out. The fault is `Memory` where the
+/// extractor was refused memory, and `Sink(Memory)` where the store was.
 pub fn deliver(alloc: Global, frames: &[TmFrame]) -> Result<Delivered, FlowFault>
     ensures lists { IfOk result (λ delivered. (vc : ℕ)
         → list_at delivered vc ≡ without_idle (packets_of_channel frames.now vc)) }

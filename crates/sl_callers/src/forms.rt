@@ -1,8 +1,8 @@
 //! Callers whose own contracts say what the normal forms promise, and why a call is refused.
 //!
-//! The recordings are slices and what is written is a vector. Each caller answers `TooLong` only where a recording, or a
-//! normal form that it normalises again, is longer than the managed limit, and `Memory` where memory was refused. It has
-//! no other fault.
+//! The recordings are slices and what is written is a vector. Each caller answers `TooLong` only
+//! where a recording, or a normal form that it normalises again, is longer than the managed limit,
+//! and `Memory` where memory was refused. It has no other fault.
 ghost use Rattle.std.specs.Prelude.{◌≡◌, ◌↔◌, IsTrue, IfOk, length, max};
 ghost use Rattle.sl_link.specs.Kind.Tm.{tm_packets};
 ghost use Rattle.sl_link.specs.Normalise.Tm.{tm_normal_form};
@@ -31,8 +31,8 @@ pub fn have_same_tm_packets(
     Ok(form.as_slice() == other_form.as_slice())
 }
 
-/// The same, proved by the law: of the two forms only that they are normal forms is known. A `Managed` that was lent meets
-/// the premise of the law.
+/// The same, proved by the law: of the two forms only that they are normal forms is known. A
+/// `Managed` that was lent meets the premise of the law.
 pub fn tell_tm_packets(
     alloc: Global,
     managed: &Managed,
@@ -60,9 +60,10 @@ fn written_tm_form(alloc: Global, managed: &Managed, recording: &[u8]) -> Result
     tm_form(alloc, managed, recording)
 }
 
-/// The normal form of the normal form of a TM recording. It is the normal form of the recording: to normalise twice is to
-/// normalise once. So clause `form` holds of one pass too, and clause `within` alone refuses it, unless it compares the
-/// form's length with the limit: the fault is `TooLong` also where the normal form is longer.
+/// The normal form of the normal form of a TM recording. It is the normal form of the recording: to
+/// normalise twice is to normalise once. So clause `form` holds of one pass too, and clause
+/// `within` alone refuses it, unless it compares the form's length with the limit: the fault is
+/// `TooLong` also where the normal form is longer.
 pub fn normalise_tm_twice(
     alloc: Global,
     managed: &Managed,
@@ -93,8 +94,8 @@ fn tm_form(alloc: Global, managed: &Managed, recording: &[u8]) -> Result<Vec<u8>
     }
 }
 
-/// Whether FARM-1 lets the same packets of two TC recordings through on each virtual channel and MAP, idle ones left
-/// out.
+/// Whether FARM-1 lets the same packets of two TC recordings through on each virtual channel and
+/// MAP, idle ones left out.
 pub fn have_same_tc_packets(
     alloc: Global,
     managed: &Managed,
@@ -111,8 +112,8 @@ pub fn have_same_tc_packets(
     Ok(form.as_slice() == other_form.as_slice())
 }
 
-/// The same, proved by the law: of the two forms only that they are normal forms is known. A `Managed` that was lent meets
-/// the premise of the law.
+/// The same, proved by the law: of the two forms only that they are normal forms is known. A
+/// `Managed` that was lent meets the premise of the law.
 pub fn tell_tc_packets(
     alloc: Global,
     managed: &Managed,
@@ -140,9 +141,10 @@ fn written_tc_form(alloc: Global, managed: &Managed, recording: &[u8]) -> Result
     tc_form(alloc, managed, recording)
 }
 
-/// The normal form of the normal form of a TC recording. It is the normal form of the recording: to normalise twice is to
-/// normalise once. So clause `form` holds of one pass too, and clause `within` alone refuses it, unless it compares the
-/// form's length with the limit: the fault is `TooLong` also where the normal form is longer.
+/// The normal form of the normal form of a TC recording. It is the normal form of the recording: to
+/// normalise twice is to normalise once. So clause `form` holds of one pass too, and clause
+/// `within` alone refuses it, unless it compares the form's length with the limit: the fault is
+/// `TooLong` also where the normal form is longer.
 pub fn normalise_tc_twice(
     alloc: Global,
     managed: &Managed,

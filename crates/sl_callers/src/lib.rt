@@ -1,6 +1,6 @@
-//! Callers with contracts of their own, which public clauses and laws of the libraries prove. The gate refuses a wrong body
-//! of each; what they answer is tested in `sl_tests`. Here stand those of FARM-1. They are lent a FARM-1 and a window:
-//! nothing is known of how these were made.
+//! Callers with contracts of their own, which public clauses and laws of the libraries prove. The
+//! gate refuses a wrong body of each; what they answer is tested in `sl_tests`. Here stand those of
+//! FARM-1. They are lent a FARM-1 and a window: nothing is known of how these were made.
 #![tactic(auto)]
 
 pub mod extractor;
@@ -14,8 +14,8 @@ ghost use Rattle.sl_cop.specs.declared.verdict.Verdict as specs;
 use sl_cop::laws::{events_have_one_run, events_have_one_step};
 use sl_cop::{Farm, FarmEvent, Verdict, Window};
 
-/// The next step of FARM-1, on a copy. The step is a case of the table, and the table has no other. The copy keeps the
-/// window.
+/// The next step of FARM-1, on a copy. The step is a case of the table, and the table has no other.
+/// The copy keeps the window.
 pub fn next_step(farm: &Farm, event: FarmEvent) -> (Verdict, Farm)
     ensures is { IsStep farm.now.window farm.now.state event result.0 result.1.state }
     ensures only { (verdict : specs.Verdict) (t : FarmState)

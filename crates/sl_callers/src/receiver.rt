@@ -12,9 +12,9 @@ use sl_tcframe::{TcFrame, VcSet};
 use std::alloc::Global;
 
 /// The packets of frames that are given to a receiver one after another. The list of a virtual
-/// channel and a MAP, whose channel is 64 times the virtual channel plus the MAP, is what the frames
-/// deliver there, idle packets left out. The fault is `Memory` where the receiver was refused
-/// memory, and `Sink(Memory)` where the store was.
+/// channel and a MAP, whose channel is 64 times the virtual channel plus the MAP, is what the
+/// frames deliver there, idle packets left out. The fault is `Memory` where the receiver was
+/// refused memory, and `Sink(Memory)` where the store was.
 pub fn receive(
     alloc: Global,
     window: Window,

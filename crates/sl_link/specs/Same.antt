@@ -14,20 +14,22 @@ use Rattle.sl_link.specs.Pass.{MayRefuseMemoryIn}
 module _ {A B : Type 0} (remaining : A → Option (List ℕ)) (others : B → Option (List ℕ)) where
   -- Both recordings were read, `limit` octets of each at most, and the answer is true exactly where
   -- their packets are the same.
-  pub record ComparesPackets (one one' : Counted A) (other other' : Counted B) (packets : List ℕ → List (List (List ℕ))) (limit : ℕ) (same : Bool) : Type 0 where
+  pub record ComparesPackets (one one' : Counted A) (other other' : Counted B)
+      (packets : List ℕ → List (List (List ℕ))) (limit : ℕ) (same : Bool) : Type 0 where
     pub first : List ℕ
     pub second : List ℕ
     pub first_read : ReadsAll remaining one one' limit first
     pub second_read : ReadsAll others other other' limit second
     pub reported : IsTrue same ↔ (packets first ≡ packets second)
 
--- The fault of a comparison of recordings in memory, the longer of which has `octets`: `TooLong` where these are over the
--- limit, and only there; else `Memory`, and `at_memory` holds.
+-- The fault of a comparison of recordings in memory, the longer of which has `octets`: `TooLong` where these are over
+-- the limit, and only there; else `Memory`, and `at_memory` holds.
 abbrev pub StopsInMemory : ℕ → ℕ → Type 0 → LinkFault → Type 0
 StopsInMemory limit octets at_memory fault =
     ((fault ≡ TooLong) × (limit < octets)) ⊎ ((fault ≡ Memory) × (octets ≤ limit) × at_memory)
 
--- at some frame of a recording in memory a packet or a series is incomplete, before it or after it, or a packet was delivered
+-- at some frame of a recording in memory a packet or a series is incomplete, before it or after it, or a packet was
+-- delivered
 abbrev pub MayRefuseMemoryInTm : Parameters → List ℕ → Type 0
 MayRefuseMemoryInTm p = MayRefuseMemoryIn (tm_frames_of p.tm_length) (MayRefuseMemoryTm p)
 

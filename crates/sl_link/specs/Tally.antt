@@ -28,7 +28,8 @@ remainder_after frames recording = length recording - length (concat frames)
 
 -- what is counted in a recording, by the counts of frames and a remainder, and the frames of a recording
 abbrev pub listing_counts : (List (List ℕ) → ℕ → Counts) → (List ℕ → List (List ℕ)) → List ℕ → Counts
-listing_counts counts frames_of recording = counts (frames_of recording) (remainder_after (frames_of recording) recording)
+listing_counts counts frames_of recording =
+    counts (frames_of recording) (remainder_after (frames_of recording) recording)
 
 -- ---- while frames are counted, in terms of the code. Contracts of private functions alone cite this section.
 
@@ -48,7 +49,8 @@ counts_with_anomalies c more = record c { anomalies = c.anomalies + more }
 
 -- a remainder, and the anomalies after the last frame
 abbrev pub counts_with_remainder : Counts → ℕ → ℕ → Counts
-counts_with_remainder c remainder more = counts_with (c.octets + remainder) c.frames c.skipped remainder c.packets c.idle (c.anomalies + more)
+counts_with_remainder c remainder more =
+    counts_with (c.octets + remainder) c.frames c.skipped remainder c.packets c.idle (c.anomalies + more)
 
 -- the counts of frames, which brought these packets and anomalies together
 abbrev pub counts_so_far : (List ℕ → Bool) → List (List ℕ) → ℕ → ℕ → ℕ → Counts

@@ -48,9 +48,9 @@ pub trait Delivery: Drop {
     fn begin(alloc: Global, managed: &Managed) -> Self
         ensures { has_processed result managed.now [] };
 
-    /// Hands a sink the packets that end in the next frame, idle packets left out. Answers the report
-    /// on the frame, and what is found of it. In a skipped frame no packet ends. The fault is the
-    /// sink's, or `Memory`.
+    /// Hands a sink the packets that end in the next frame, idle packets left out. Answers the
+    /// report on the frame, and what is found of it. In a skipped frame no packet ends. The fault
+    /// is the sink's, or `Memory`.
     fn deliver<S: PacketSink>(
         &mut self,
         managed: &Managed,
@@ -59,8 +59,9 @@ pub trait Delivery: Drop {
     ) -> Result<(FrameReport, Self::Found), FlowFault>
         requires { (before : List (List ℕ)) × has_processed self.old managed.now before
             × is_frame managed.now frame.now }
-        ensures processed { OnOk result ((before : List (List ℕ)) → has_processed self.old managed.now
-            before → has_processed self.new managed.now (before ++ frame.now ∷ [])) }
+        ensures processed { OnOk result ((before : List (List ℕ))
+            → has_processed self.old managed.now before
+            → has_processed self.new managed.now (before ++ frame.now ∷ [])) }
         ensures delivers { IfOk result (λ answer. (before : List (List ℕ))
             → has_processed self.old managed.now before
             → Delivers S.taking (kind managed.now) before frame.now sink.old answer.0 sink.new) }
@@ -69,7 +70,8 @@ pub trait Delivery: Drop {
             → answer.1 ≡ found managed.now before frame.now) }
         ensures stopped { IfErr result (λ fault. (before : List (List ℕ))
             → has_processed self.old managed.now before
-            → IsStopped S.taking S.failing S.failures sink.old ((kind managed.now).channel frame.now)
+            → IsStopped S.taking S.failing S.failures sink.old
+            ((kind managed.now).channel frame.now)
             (without_idle ((kind managed.now).ended before frame.now)) fault sink.new) }
         // The fault is `Memory` only where something is incomplete. A sink that is refused memory
         // has another fault.

@@ -2,31 +2,35 @@
 ghost use Rattle.sl_link.specs.Verbs.Packets.Listed.{TmPacketsAreListed, TcPacketsAreListed};
 ghost use Rattle.sl_link.specs.Normalise.Separation.{TmFormsTellPackets, TcFormsTellPackets};
 
-/// Under the same managed parameters, normal forms of two TM recordings are equal octet for octet exactly where the
-/// recordings deliver the same packets on each virtual channel, idle ones left out. A normal form delivers the
-/// packets of the recording that it was made of, and is its own normal form.
+/// Under the same managed parameters, normal forms of two TM recordings are equal octet for octet
+/// exactly where the recordings deliver the same packets on each virtual channel, idle ones left
+/// out. A normal form delivers the packets of the recording that it was made of, and is its own
+/// normal form.
 #[tactic(auto, using(crate::proofs::lemmas::Normalise::Separation::tm_forms_tell_packets))]
 pub fn tm_normal_forms_tell_packets()
     ensures { TmFormsTellPackets }
 {}
 
-/// Under the same managed parameters, normal forms of two TC recordings are equal octet for octet exactly where the
-/// recordings deliver the same packets on each virtual channel and MAP, idle ones left out. A normal form delivers
-/// the packets of the recording that it was made of, and is its own normal form.
+/// Under the same managed parameters, normal forms of two TC recordings are equal octet for octet
+/// exactly where the recordings deliver the same packets on each virtual channel and MAP, idle ones
+/// left out. A normal form delivers the packets of the recording that it was made of, and is its
+/// own normal form.
 #[tactic(auto, using(crate::proofs::lemmas::Normalise::Separation::tc_forms_tell_packets))]
 pub fn tc_normal_forms_tell_packets()
     ensures { TcFormsTellPackets }
 {}
 
-/// The packet listing of a TM recording is a line for each of some packets. On each virtual channel these are exactly
-/// the packets that the recording delivers there, in their order, idle ones left out.
+/// The packet listing of a TM recording is a line for each of some packets. On each virtual channel
+/// these are exactly the packets that the recording delivers there, in their order, idle ones left
+/// out.
 #[tactic(auto, using(crate::proofs::lemmas::Verbs::Packets::Listed::tm_packets_are_listed))]
 pub fn tm_packets_are_listed()
     ensures { TmPacketsAreListed }
 {}
 
-/// The packet listing of a TC recording is a line for each of some packets. On each virtual channel and MAP these are
-/// exactly the packets that the recording delivers there, in their order, idle ones left out.
+/// The packet listing of a TC recording is a line for each of some packets. On each virtual channel
+/// and MAP these are exactly the packets that the recording delivers there, in their order, idle
+/// ones left out.
 #[tactic(auto, using(crate::proofs::lemmas::Verbs::Packets::Listed::tc_packets_are_listed))]
 pub fn tc_packets_are_listed()
     ensures { TcPacketsAreListed }

@@ -1,7 +1,8 @@
 //! Engines over recordings of a spacecraft's link, and the command line of the program `sllink`.
 //!
-//! A recording is TM transfer frames (CCSDS 132.0-B) or TC transfer frames (CCSDS 232.0-B) end to end, nothing else.
-//! Its remainder is the octets after the last whole frame. For each of the two kinds of frames there are these calls:
+//! A recording is TM transfer frames (CCSDS 132.0-B) or TC transfer frames (CCSDS 232.0-B) end to
+//! end, nothing else. Its remainder is the octets after the last whole frame. For each of the two
+//! kinds of frames there are these calls:
 //!
 //! - `show_` lists the frames, and `check_` their anomalies;
 //! - `packets_` lists the packets that the frames deliver;
@@ -9,10 +10,11 @@
 //! - `same_packets_` reports whether two recordings deliver the same packets;
 //! - `same_packets_in_memory_` does so for recordings that are slices.
 //!
-//! Each call is under the [`Managed`] parameters of the link, and answers why it stopped, a [`LinkFault`], or what it
-//! found. The first three read a [`Counted`] stream, write another one and answer what they counted, their [`Totals`].
-//! The last two answer a `bool`; `same_packets_` reads two such streams. [`run_engine`] is the first three, by a
-//! [`VerbName`] and a [`RecordingKind`].
+//! Each call is under the [`Managed`] parameters of the link, and answers why it stopped, a
+//! [`LinkFault`], or what it found. The first three read a [`Counted`] stream, write another one
+//! and answer what they counted, their [`Totals`]. The last two answer a `bool`; `same_packets_`
+//! reads two such streams. [`run_engine`] is the first three, by a [`VerbName`] and a
+//! [`RecordingKind`].
 #![tactic(auto)]
 
 mod engine;

@@ -30,18 +30,19 @@ use sl_tmframe::TmFramer;
 use std::alloc::Global;
 use std::io::{Read, Write};
 
-/// Reads a recording of TM transfer frames to its end, and then writes the normal form of the packets that its
-/// frames deliver (docs/normal-form.md).
+/// Reads a recording of TM transfer frames to its end, and then writes the normal form of the
+/// packets that its frames deliver (docs/normal-form.md).
 ///
-/// It keeps these packets. While it reads, it also keeps what was read last, at most 65,536 octets, one frame at most
-/// that began in an earlier read, and the packet that is incomplete on each virtual channel. While it writes, it also
-/// keeps octets of the normal form that aren't written yet, at most 262,144. No clause says what is kept: that is seen
-/// by reading.
+/// It keeps these packets. While it reads, it also keeps what was read last, at most 65,536 octets,
+/// one frame at most that began in an earlier read, and the packet that is incomplete on each
+/// virtual channel. While it writes, it also keeps octets of the normal form that aren't written
+/// yet, at most 262,144. No clause says what is kept: that is seen by reading.
 ///
-/// The fault is `Read` or `Write` where the reader or the writer had one, `TooLong` where more octets came than the
-/// managed limit, and `Memory` where memory was refused. Memory is refused only where a packet is incomplete on the
-/// virtual channel of a frame, before the frame or after it, or where a packet was delivered. After `Write` the
-/// writer has a prefix of the normal form; after another fault nothing was written.
+/// The fault is `Read` or `Write` where the reader or the writer had one, `TooLong` where more
+/// octets came than the managed limit, and `Memory` where memory was refused. Memory is refused
+/// only where a packet is incomplete on the virtual channel of a frame, before the frame or after
+/// it, or where a packet was delivered. After `Write` the writer has a prefix of the normal form;
+/// after another fault nothing was written.
 pub fn normalise_tm<R: Read, W: Write>(
     alloc: Global,
     managed: &Managed,
@@ -58,34 +59,37 @@ pub fn normalise_tm<R: Read, W: Write>(
     // The normal form delivers the packets of the recording.
     ensures packets { OnOk result (KeepsPackets R.remaining W.contents reader.old reader.new
         writer.old writer.new (tm_packets managed.now)) }
-    // A fault has its cause (`IsCaused`), and a prefix of the normal form of what was read is written.
+    // A fault has its cause (`IsCaused`), and a prefix of the normal form of what was read is
+    // written.
     ensures fault { IfErr result (Stops R.remaining W.contents reader.old reader.new
         writer.old writer.new (tm_normal_form managed.now) managed.now.max_octets chunk_size) }
     // After a fault something is written only if the writer failed, and then all was read.
     ensures all_read { IfErr result (λ fault. fault ≡ LinkFault.Write
         → IsRead R.remaining reader.new) }
     ensures nothing { IfErr result (λ fault. fault ≢ LinkFault.Write → writer.new ≡ writer.old) }
-    // Memory is refused only where a packet is incomplete before a frame or after it, or was delivered.
+    // Memory is refused only where a packet is incomplete before a frame or after it, or was
+    // delivered.
     ensures memory { IfErr result (λ fault. fault ≡ LinkFault.Memory
-        → MayRefuseMemoryAtSome R.remaining reader.old reader.new (tm_frames_of managed.now.tm_length)
-        (MayRefuseMemoryTm managed.now)) }
+        → MayRefuseMemoryAtSome R.remaining reader.old reader.new
+        (tm_frames_of managed.now.tm_length) (MayRefuseMemoryTm managed.now)) }
 {
     let mut framer = TmFramer::new(&managed.tm);
     normalise::<Extractor, TmFramer, R, W>(alloc, managed, &mut framer, reader, writer)
 }
 
-/// Reads a recording of TC transfer frames to its end, and then writes the normal form of the packets that its
-/// frames deliver, on each virtual channel and MAP (docs/normal-form.md).
+/// Reads a recording of TC transfer frames to its end, and then writes the normal form of the
+/// packets that its frames deliver, on each virtual channel and MAP (docs/normal-form.md).
 ///
-/// It keeps these packets. While it reads, it also keeps what was read last, at most 65,536 octets, one frame at most
-/// that began in an earlier read, the FARM-1 of 64 virtual channels, and the series that is incomplete on each MAP.
-/// While it writes, it also keeps octets of the normal form that aren't written yet, at most 262,144. No clause says
-/// what is kept: that is seen by reading.
+/// It keeps these packets. While it reads, it also keeps what was read last, at most 65,536 octets,
+/// one frame at most that began in an earlier read, the FARM-1 of 64 virtual channels, and the
+/// series that is incomplete on each MAP. While it writes, it also keeps octets of the normal form
+/// that aren't written yet, at most 262,144. No clause says what is kept: that is seen by reading.
 ///
-/// The fault is `Read` or `Write` where the reader or the writer had one, `TooLong` where more octets came than the
-/// managed limit, and `Memory` where memory was refused. Memory is refused only where the unit of a frame is accepted
-/// and a series is incomplete on its MAP, before the frame or after it, or where a packet was delivered. After
-/// `Write` the writer has a prefix of the normal form; after another fault nothing was written.
+/// The fault is `Read` or `Write` where the reader or the writer had one, `TooLong` where more
+/// octets came than the managed limit, and `Memory` where memory was refused. Memory is refused
+/// only where the unit of a frame is accepted and a series is incomplete on its MAP, before the
+/// frame or after it, or where a packet was delivered. After `Write` the writer has a prefix of the
+/// normal form; after another fault nothing was written.
 pub fn normalise_tc<R: Read, W: Write>(
     alloc: Global,
     managed: &Managed,
@@ -102,17 +106,19 @@ pub fn normalise_tc<R: Read, W: Write>(
     // The normal form delivers the packets of the recording.
     ensures packets { OnOk result (KeepsPackets R.remaining W.contents reader.old reader.new
         writer.old writer.new (tc_packets managed.now)) }
-    // A fault has its cause (`IsCaused`), and a prefix of the normal form of what was read is written.
+    // A fault has its cause (`IsCaused`), and a prefix of the normal form of what was read is
+    // written.
     ensures fault { IfErr result (Stops R.remaining W.contents reader.old reader.new
         writer.old writer.new (tc_normal_form managed.now) managed.now.max_octets chunk_size) }
     // After a fault something is written only if the writer failed, and then all was read.
     ensures all_read { IfErr result (λ fault. fault ≡ LinkFault.Write
         → IsRead R.remaining reader.new) }
     ensures nothing { IfErr result (λ fault. fault ≢ LinkFault.Write → writer.new ≡ writer.old) }
-    // Memory is refused only where a series is incomplete before a frame or after it, or a packet was delivered.
+    // Memory is refused only where a series is incomplete before a frame or after it, or a packet
+    // was delivered.
     ensures memory { IfErr result (λ fault. fault ≡ LinkFault.Memory
-        → MayRefuseMemoryAtSome R.remaining reader.old reader.new (tc_frames_of (tc_format managed.now))
-        (MayRefuseMemoryTc managed.now)) }
+        → MayRefuseMemoryAtSome R.remaining reader.old reader.new
+        (tc_frames_of (tc_format managed.now)) (MayRefuseMemoryTc managed.now)) }
 {
     let mut framer = TcFramer::new(&managed.tc);
     normalise::<Receiver, TcFramer, R, W>(alloc, managed, &mut framer, reader, writer)
@@ -141,7 +147,8 @@ trait Formed: Delivery {
         ensures delivers { recorded_packets (Self.kind managed.now)
             (form_of managed.now (listed (Self.kind managed.now) delivered.now.lists))
             ≡ listed (Self.kind managed.now) delivered.now.lists }
-        // Nothing is written where memory was refused, and it is refused only where there are packets.
+        // Nothing is written where memory was refused, and it is refused only where there are
+        // packets.
         ensures fault { IfErr result (StopsWriting W.contents writer.old writer.new
             (form_of managed.now (listed (Self.kind managed.now) delivered.now.lists))
             ((writer.new ≡ writer.old) × HasSome (Self.kind managed.now) delivered.now.lists)) };
@@ -185,7 +192,8 @@ impl Formed for Receiver {
     }
 }
 
-// Reads a recording to its end, and then writes the normal form of the packets that its frames deliver.
+// Reads a recording to its end, and then writes the normal form of the packets that its frames
+// deliver.
 fn normalise<D: Formed, F: Framer, R: Read, W: Write>(
     alloc: Global,
     managed: &Managed,

@@ -18,7 +18,8 @@ use std::io::Read;
 /// How many octets are read at once, at most.
 pub const CHUNK_SIZE: usize = 0x10000;
 
-/// Reads a recording to its end, hands over each frame of it, and answers how many octets were read.
+/// Reads a recording to its end, hands over each frame of it, and answers how many octets were
+/// read.
 pub fn read_recording<F: Framer, S: FrameSink, R: Read>(
     managed: &Managed,
     framer: &mut F,
@@ -27,7 +28,8 @@ pub fn read_recording<F: Framer, S: FrameSink, R: Read>(
     buffer: &mut [u8],
 ) -> Result<u64, LinkFault>
     requires room { 0 < length buffer.old }
-    // The framer holds no octets yet, and the sink has taken no frame, but may take each that the framer cuts.
+    // The framer holds no octets yet, and the sink has taken no frame, but may take each that the
+    // framer cuts.
     requires none { F.waits framer.old managed.now [] }
     requires same { (frame : List ℕ) → F.is_frame managed.now frame → S.is_frame managed.now frame }
     requires begun { S.took managed.now sink.old sink.old [] }
@@ -49,8 +51,8 @@ pub fn read_recording<F: Framer, S: FrameSink, R: Read>(
     }
 }
 
-/// Hands over the frames that a chunk completes, and then pauses. The clauses speak of any past: of a
-/// sink `start`, and of all octets so far, which end with the chunk.
+/// Hands over the frames that a chunk completes, and then pauses. The clauses speak of any past: of
+/// a sink `start`, and of all octets so far, which end with the chunk.
 pub fn deliver_chunk<F: Framer, S: FrameSink>(
     managed: &Managed,
     framer: &mut F,

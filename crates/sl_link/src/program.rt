@@ -51,14 +51,15 @@ Exit status:
   3  reading or writing failed, the recording is too long, or there was no memory
 ";
 
-/// Runs the program over its words, the first of them its own name, and returns its exit status, 0 to 3:
+/// Runs the program over its words, the first of them its own name, and returns its exit status, 0
+/// to 3:
 ///
-/// - 0: the recording was read and the output written, and a check met no anomaly; or help or the version was
-///   written;
+/// - 0: the recording was read and the output written, and a check met no anomaly; or help or the
+///   version was written;
 /// - 1: all was read and written, and a check met anomalies;
 /// - 2: the words or a managed parameter are refused, and nothing was read or written;
-/// - 3: reading or writing failed, the recording has more octets than the limit, or memory was refused, which may
-///   happen with any words.
+/// - 3: reading or writing failed, the recording has more octets than the limit, or memory was
+///   refused, which may happen with any words.
 ///
 /// `errors` gets the reason for status 2 or 3 in one line, or the command line's own lines where it
 /// refuses the words. Where `errors` fails the reason is cut short, and the status is the same.
@@ -70,16 +71,17 @@ pub fn run<R: Read, W: Write, E: Write>(
     errors: &mut E,
 ) -> u8
     ensures range { result ≤ 3 }
-    // After success the text that the words ask for is written and no anomaly was met, or they ask for help or
-    // the version, which is written, and nothing was read.
-    ensures succeeded { result ≡ 0 → ((reader.new ≡ reader.old) × WithAnswer (map string_bytes words.now)
-        (WritesText W.contents writer.old writer.new))
+    // After success the text that the words ask for is written and no anomaly was met, or they ask
+    // for help or the version, which is written, and nothing was read.
+    ensures succeeded { result ≡ 0 → ((reader.new ≡ reader.old)
+        × WithAnswer (map string_bytes words.now) (WritesText W.contents writer.old writer.new))
         ⊎ WithAsked (map string_bytes words.now) (HasSucceeded R.remaining W.contents
         reader.old reader.new writer.old writer.new) }
     // A check that met anomalies has written all of its listing.
     ensures anomalies { result ≡ 1 → WithAsked (map string_bytes words.now)
         (HasMetAnomalies R.remaining W.contents reader.old reader.new writer.old writer.new) }
-    // A refused run has read and written nothing: the words are refused, or a managed parameter that they ask for is.
+    // A refused run has read and written nothing: the words are refused, or a managed parameter
+    // that they ask for is.
     ensures refused { result ≡ 2 → (reader.new ≡ reader.old) × (writer.new ≡ writer.old)
         × (AreRefused (map string_bytes words.now) ⊎ WithAsked (map string_bytes words.now)
         AsksForRefusedParameter) }
@@ -184,7 +186,8 @@ fn report_refusal<W: Write, E: Write>(
         × (kind_of refusal.now ≢ ErrorKind.DisplayHelp)
         × (kind_of refusal.now ≢ ErrorKind.DisplayVersion)
         × (kind_of refusal.now ≢ ErrorKind.OutOfMemory) }
-    // Want of memory or a failed write is a fault. Refused words and a failed error output are no faults.
+    // Want of memory or a failed write is a fault. Refused words and a failed error output are no
+    // faults.
     ensures stopped { result ≡ 3
         → ((writer.new ≡ writer.old) × MayLackMemory (kind_of refusal.now))
         ⊎ WithText (kind_of refusal.now)

@@ -23,29 +23,32 @@ use sl_tmframe::TmFramer;
 use std::alloc::Global;
 use std::io::Read;
 
-/// Reads two recordings of TM transfer frames to their ends, one after the other, and reports whether both deliver
-/// the same packets on each virtual channel, idle packets left out. So the answer is true exactly where the normal
-/// forms of both are equal octet for octet.
+/// Reads two recordings of TM transfer frames to their ends, one after the other, and reports
+/// whether both deliver the same packets on each virtual channel, idle packets left out. So the
+/// answer is true exactly where the normal forms of both are equal octet for octet.
 ///
-/// The call keeps the packets of both recordings. While it reads, it also keeps what was read last, at most 65,536
-/// octets, of each recording one frame at most that began in an earlier read, and the packet that is incomplete on each
-/// virtual channel. No clause says what is kept: that is seen by reading.
+/// The call keeps the packets of both recordings. While it reads, it also keeps what was read last,
+/// at most 65,536 octets, of each recording one frame at most that began in an earlier read, and
+/// the packet that is incomplete on each virtual channel. No clause says what is kept: that is seen
+/// by reading.
 ///
 /// The fault is `Read` where a reader had one, `TooLong` where more octets came from a reader than
 /// the managed limit, and `Memory` where memory was refused. Memory is refused only where a packet
 /// is incomplete on the virtual channel of a frame, before the frame or after it, or where a packet
-/// was delivered. Where the first recording isn't read to its end, nothing is read of the other one.
+/// was delivered. Where the first recording isn't read to its end, nothing is read of the other
+/// one.
 pub fn same_packets_tm<A: Read, B: Read>(
     alloc: Global,
     managed: &Managed,
     one: &mut Counted<A>,
     other: &mut Counted<B>,
 ) -> Result<bool, LinkFault>
-    // Both recordings are read to their ends, and the answer is true exactly where their packets are the same.
+    // Both recordings are read to their ends, and the answer is true exactly where their packets
+    // are the same.
     ensures same { IfOk result (ComparesPackets A.remaining B.remaining one.old one.new other.old
         other.new (tm_packets managed.now) managed.now.max_octets) }
-    // A fault has its cause: at the first recording, and nothing was read of the other; or at the other,
-    // once the first was read to its end.
+    // A fault has its cause: at the first recording, and nothing was read of the other; or at the
+    // other, once the first was read to its end.
     ensures fault { IfErr result (λ fault. (StopsReading A.remaining one.old one.new
         managed.now.max_octets chunk_size fault × (other.new ≡ other.old))
         ⊎ (((octets : List ℕ) × ReadsAll A.remaining one.old one.new managed.now.max_octets octets)
@@ -61,29 +64,33 @@ pub fn same_packets_tm<A: Read, B: Read>(
     same_packets::<Extractor, TmFramer, A, B>(alloc, managed, framers, one, other)
 }
 
-/// Reads two recordings of TC transfer frames to their ends, one after the other, and reports whether FARM-1 lets the
-/// same packets of both through on each virtual channel and MAP, idle packets left out. So the answer is true exactly
-/// where the normal forms of both are equal octet for octet.
+/// Reads two recordings of TC transfer frames to their ends, one after the other, and reports
+/// whether FARM-1 lets the same packets of both through on each virtual channel and MAP, idle
+/// packets left out. So the answer is true exactly where the normal forms of both are equal octet
+/// for octet.
 ///
-/// The call keeps the packets of both recordings. While it reads, it also keeps what was read last, at most 65,536
-/// octets, of each recording one frame at most that began in an earlier read, the FARM-1 of 64 virtual channels, and the
-/// series that is incomplete on each MAP. No clause says what is kept: that is seen by reading.
+/// The call keeps the packets of both recordings. While it reads, it also keeps what was read last,
+/// at most 65,536 octets, of each recording one frame at most that began in an earlier read, the
+/// FARM-1 of 64 virtual channels, and the series that is incomplete on each MAP. No clause says
+/// what is kept: that is seen by reading.
 ///
-/// The fault is `Read` where a reader had one, `TooLong` where more octets came from a reader than the managed limit,
-/// and `Memory` where memory was refused. Memory is refused only where the unit of a frame is accepted and a series is
-/// incomplete on its MAP, before the frame or after it, or where a packet was delivered. Where the first recording
-/// isn't read to its end, nothing is read of the other one.
+/// The fault is `Read` where a reader had one, `TooLong` where more octets came from a reader than
+/// the managed limit, and `Memory` where memory was refused. Memory is refused only where the unit
+/// of a frame is accepted and a series is incomplete on its MAP, before the frame or after it, or
+/// where a packet was delivered. Where the first recording isn't read to its end, nothing is read
+/// of the other one.
 pub fn same_packets_tc<A: Read, B: Read>(
     alloc: Global,
     managed: &Managed,
     one: &mut Counted<A>,
     other: &mut Counted<B>,
 ) -> Result<bool, LinkFault>
-    // Both recordings are read to their ends, and the answer is true exactly where their packets are the same.
+    // Both recordings are read to their ends, and the answer is true exactly where their packets
+    // are the same.
     ensures same { IfOk result (ComparesPackets A.remaining B.remaining one.old one.new other.old
         other.new (tc_packets managed.now) managed.now.max_octets) }
-    // A fault has its cause: at the first recording, and nothing was read of the other; or at the other,
-    // once the first was read to its end.
+    // A fault has its cause: at the first recording, and nothing was read of the other; or at the
+    // other, once the first was read to its end.
     ensures fault { IfErr result (λ fault. (StopsReading A.remaining one.old one.new
         managed.now.max_octets chunk_size fault × (other.new ≡ other.old))
         ⊎ (((octets : List ℕ) × ReadsAll A.remaining one.old one.new managed.now.max_octets octets)
@@ -99,7 +106,8 @@ pub fn same_packets_tc<A: Read, B: Read>(
     same_packets::<Receiver, TcFramer, A, B>(alloc, managed, framers, one, other)
 }
 
-// Reads two recordings to their ends, one after the other, and reports whether both deliver the same packets.
+// Reads two recordings to their ends, one after the other, and reports whether both deliver the
+// same packets.
 fn same_packets<D: Delivery, F: Framer + Drop, A: Read, B: Read>(
     alloc: Global,
     managed: &Managed,
@@ -128,9 +136,10 @@ fn same_packets<D: Delivery, F: Framer + Drop, A: Read, B: Read>(
     Ok(stored.has_same_packets(&others))
 }
 
-/// Reports the same of two recordings of TM transfer frames in memory. The fault is `TooLong` where a recording has more
-/// octets than the managed limit, and else `Memory`, where memory was refused. Memory is refused only where a packet is
-/// incomplete on the virtual channel of a frame, before the frame or after it, or where a packet was delivered.
+/// Reports the same of two recordings of TM transfer frames in memory. The fault is `TooLong` where
+/// a recording has more octets than the managed limit, and else `Memory`, where memory was refused.
+/// Memory is refused only where a packet is incomplete on the virtual channel of a frame, before
+/// the frame or after it, or where a packet was delivered.
 pub fn same_packets_in_memory_tm(
     alloc: Global,
     managed: &Managed,
@@ -151,10 +160,10 @@ pub fn same_packets_in_memory_tm(
     same_packets_in_memory::<Extractor, TmFramer>(alloc, managed, framers, one, other)
 }
 
-/// Reports the same of two recordings of TC transfer frames in memory. The fault is `TooLong` where a recording has more
-/// octets than the managed limit, and else `Memory`, where memory was refused. Memory is refused only where the unit of
-/// a frame is accepted and a series is incomplete on its MAP, before the frame or after it, or where a packet was
-/// delivered.
+/// Reports the same of two recordings of TC transfer frames in memory. The fault is `TooLong` where
+/// a recording has more octets than the managed limit, and else `Memory`, where memory was refused.
+/// Memory is refused only where the unit of a frame is accepted and a series is incomplete on its
+/// MAP, before the frame or after it, or where a packet was delivered.
 pub fn same_packets_in_memory_tc(
     alloc: Global,
     managed: &Managed,

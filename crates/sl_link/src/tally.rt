@@ -62,8 +62,8 @@ impl Totals {
         self.anomalies += more;
     }
 
-    /// The totals of a recording whose remainder has `remainder` octets, where `more` anomalies were met
-    /// after the last frame.
+    /// The totals of a recording whose remainder has `remainder` octets, where `more` anomalies
+    /// were met after the last frame.
     pub(crate) fn totals(&self, remainder: u64, more: u64) -> Totals
         requires fits { self.now.octets + remainder < 2 ^ 64 }
         requires few { self.now.anomalies + more ≤ self.now.octets + remainder }

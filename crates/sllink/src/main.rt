@@ -22,8 +22,8 @@ fn main(rt: HostRuntime) -> ExitCode {
     }
 }
 
-// Runs the library over the standard streams. It fails where memory is refused for its words, or where the words
-// are no text.
+// Runs the library over the standard streams. It fails where memory is refused for its words, or
+// where the words are no text.
 fn start(rt: &HostRuntime) -> io::Result<u8> {
     let alloc = rt.alloc();
     let words: Vec<String> = env::args(rt)?.collect(alloc)?;

@@ -47,7 +47,8 @@ pub extern "C" fn sllink_packet_header_write(
     ensures octets { WritesOctets (FitsPacketHeader (packet_fields_of header.now))
         (packet_octets (packet_fields_of header.now)) octets.old octets.new result }
     // The octets are read back as this header.
-    ensures reads_back { Says result Answer.Done → packet_header octets.new ≡ packet_fields_of header.now }
+    ensures reads_back { Says result Answer.Done
+        → packet_header octets.new ≡ packet_fields_of header.now }
 {
     match PacketHeader::new(
         header.version,

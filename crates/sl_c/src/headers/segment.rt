@@ -7,7 +7,8 @@ ghost use Rattle.sl_c.specs.Headers.{WritesOctets, segment_fields_of};
 use crate::answer::Answer;
 use sl_fields::SegmentHeader;
 
-/// The segment header of a TC transfer frame, as its fields, in the ranges of [`SegmentHeader::new`].
+/// The segment header of a TC transfer frame, as its fields, in the ranges of
+/// [`SegmentHeader::new`].
 #[repr(C)]
 #[derive(Clone, Copy)]
 pub struct SegmentHeaderFields {
@@ -37,7 +38,8 @@ pub extern "C" fn sllink_segment_header_write(
     ensures octets { WritesOctets (FitsSegmentHeader (segment_fields_of header.now))
         (segment_octets (segment_fields_of header.now)) octets.old octets.new result }
     // The octets are read back as this header.
-    ensures reads_back { Says result Answer.Done → segment_header octets.new ≡ segment_fields_of header.now }
+    ensures reads_back { Says result Answer.Done
+        → segment_header octets.new ≡ segment_fields_of header.now }
 {
     match SegmentHeader::new(header.flags, header.map) {
         Some(fields) => {

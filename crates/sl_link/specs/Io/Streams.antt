@@ -50,9 +50,10 @@ pub record ReadsAll {R : Type 0} (remaining : R → Option (List ℕ)) (old new 
 
 -- An engine's fault has its cause, and no other: at most the stream that it names had a fault of its own. At `TooLong`
 -- more octets than the limit were read, by `past` at most, and at any other fault no more than the limit. No clause can
--- say that memory was refused. Where no reader or no writer takes part, `no_stream` stands for it. That stream has had no
--- fault, so no engine's fault names it.
-abbrev pub IsCaused : {R W : Type 0} → Counted R → Counted R → Counted W → Counted W → ℕ → ℕ → List ℕ → LinkFault → Type 0
+-- say that memory was refused. Where no reader or no writer takes part, `no_stream` stands for it. That stream has had
+-- no fault, so no engine's fault names it.
+abbrev pub IsCaused : {R W : Type 0} → Counted R → Counted R → Counted W → Counted W → ℕ → ℕ → List ℕ → LinkFault
+    → Type 0
 IsCaused reader reader' writer writer' limit past octets Read =
     HadOneFault reader reader' × (faults_of writer' ≡ faults_of writer) × (length octets ≤ limit)
 IsCaused reader reader' writer writer' limit past octets TooLong =

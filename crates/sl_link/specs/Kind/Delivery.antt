@@ -99,7 +99,8 @@ pub record Delivers {S : Type 0} (taking : S → ℕ → List ℕ → S → Type
 
 -- These frames were processed, as `had` says, and these are their counts, with this number of anomalies. Frames
 -- and anomalies together are no more than the octets of the frames.
-pub record HasDelivered (k : Kind) (had : List (List ℕ) → Type 0) (frames : List (List ℕ)) (anomalies : ℕ) (t : Counts) : Type 0 where
+pub record HasDelivered (k : Kind) (had : List (List ℕ) → Type 0) (frames : List (List ℕ)) (anomalies : ℕ)
+    (t : Counts) : Type 0 where
   pub processed : had frames
   pub counts : t ≡ counts_so_far k.is_skipped frames (number_of_packets k frames) (number_of_idle k frames) anomalies
   pub few : anomalies + length frames ≤ length (concat frames)

@@ -127,4 +127,5 @@ octets_held_after p frames =
 pub record HasProcessedTc (p : Parameters) (state : ReceiverState) (frames : List (List ℕ)) : Type 0 where
   pub processed : HasProcessed (reception_of p) state (views_of (tc_format p) p.spacecraft frames)
   pub within : IsWithin (tc_kind p) frames
-  pub held : number_of_packets (tc_kind p) frames + number_of_idle (tc_kind p) frames + octets_held_after p frames ≤ length (concat frames)
+  pub held : number_of_packets (tc_kind p) frames + number_of_idle (tc_kind p) frames + octets_held_after p frames
+      ≤ length (concat frames)

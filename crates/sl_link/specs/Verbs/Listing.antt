@@ -35,7 +35,8 @@ listing_text frames_of l recording = lines_from l.line [] (frames_of recording)
 
 -- A listing may begin: the buffer has room, and no octets wait in the framer; the verb may list each frame that the
 -- framer cuts, and has listed none.
-pub record MayBegin (buffer : List ℕ) (waits is_cut is_listed : List ℕ → Type 0) (has_listed : Frames → Type 0) : Type 0 where
+pub record MayBegin (buffer : List ℕ) (waits is_cut is_listed : List ℕ → Type 0)
+    (has_listed : Frames → Type 0) : Type 0 where
   pub room : 0 < length buffer
   pub none : waits []
   pub same : (frame : List ℕ) → is_cut frame → is_listed frame

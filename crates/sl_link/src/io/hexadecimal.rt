@@ -51,7 +51,8 @@ impl Hexadecimals {
         }
     }
 
-    // Writes eight of these octets, from the index `from` on, where those before `from` are written.
+    // Writes eight of these octets, from the index `from` on, where those before `from` are
+    // written.
     #[inline(always)]
     fn put_eight(&self, octets: &[u8], from: usize, buffer: &mut [u8], at: usize)
         requires inside { from + 8 ≤ length octets.now }

@@ -13,7 +13,8 @@ use std::io::Write;
 /// What a step answers that writes.
 pub type Written = Result<(), LinkFault>;
 
-/// Lines that are written where room is wanted. Each step keeps the writer that was lent, also where it fails.
+/// Lines that are written where room is wanted. Each step keeps the writer that was lent, also
+/// where it fails.
 #[derive(Drop)]
 pub struct Output<'a, W: Write> {
     pub writer: &'a mut Counted<W>,
@@ -21,7 +22,8 @@ pub struct Output<'a, W: Write> {
 }
 
 impl<'a, W: Write> Output<'a, W> {
-    /// Makes room for the lines of a frame: writes the lines so far where fewer than `RESERVE` octets are free.
+    /// Makes room for the lines of a frame: writes the lines so far where fewer than `RESERVE`
+    /// octets are free.
     #[inline(always)]
     pub fn make_room(&mut self) -> Written
         ensures kept { OnOk result (Adds W.contents self.old [] self.new) }

@@ -34,7 +34,8 @@ pub fn read_some<R: Read>(
     Ok(taken)
 }
 
-/// Writes all of a text. An error of the writer, or a write that takes nothing, is the fault `Write`.
+/// Writes all of a text. An error of the writer, or a write that takes nothing, is the fault
+/// `Write`.
 pub fn write_text<W: Write>(writer: &mut Counted<W>, text: &[u8]) -> Result<(), LinkFault>
     ensures written { OnOk result (WritesText W.contents writer.old writer.new text.now) }
     ensures fault { IfErr result (StopsWriting W.contents writer.old writer.new text.now ⊥) }

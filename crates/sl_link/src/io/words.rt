@@ -9,7 +9,8 @@ use sl_cop::Verdict;
 use sl_tcframe::TcSkip;
 use sl_tmframe::TmSkip;
 
-/// Adds the line of a remainder: the offset at which the remainder begins, and how many octets it has.
+/// Adds the line of a remainder: the offset at which the remainder begins, and how many octets it
+/// has.
 pub fn push_remainder(lines: &mut Lines, offset: u64, octets: u64)
     requires { HasRoom lines.old }
     ensures text { lines.new ≡ lines.old ++ line_at offset (codes " rest " ++ decimal octets) }

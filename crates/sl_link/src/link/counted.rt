@@ -1,9 +1,10 @@
 //! A stream that counts its faults.
 use std::io::{self, Read, Write};
 
-/// A reader or a writer that counts its faults: each error that it answers, and each write that takes none of one or
-/// more octets. The count stops at 2^64 - 1. An interrupted call is an error like any other. Every call is handed on
-/// to the stream, and its answer comes back unchanged: the code shows that, and no clause says it.
+/// A reader or a writer that counts its faults: each error that it answers, and each write that
+/// takes none of one or more octets. The count stops at 2^64 - 1. An interrupted call is an error
+/// like any other. Every call is handed on to the stream, and its answer comes back unchanged: the
+/// code shows that, and no clause says it.
 #[derive(Drop)]
 pub struct Counted<T> {
     stream: T,
@@ -73,7 +74,8 @@ impl<W: Write> Write for Counted<W> {
 
     ghost contents = { λ c. W.contents (stream_of c) };
 
-    /// Writes to the stream. An error counts as a fault, and so does a write that takes none of one or more octets.
+    /// Writes to the stream. An error counts as a fault, and so does a write that takes none of one
+    /// or more octets.
     fn write(&mut self, buf: &[u8]) -> io::Result<usize>
         ensures bound { WritesAtMost result buf.now }
         ensures bytes { WriteAppends (W.contents (stream_of self.old))

@@ -7,10 +7,11 @@ use thiserror::Error;
 
 /// Why an engine stopped before its work was done.
 ///
-/// The engines' clauses `fault` say less than the sentences here. An engine answers `Read` only where the reader, and
-/// `Write` only where the writer, had a fault or a count of faults of 2^64 - 1. It answers `TooLong` only where more
-/// octets than the managed limit were read; of a reader whose octets no contract can name, nothing is claimed of that.
-/// No clause can say that memory was refused.
+/// The engines' clauses `fault` say less than the sentences here. An engine answers `Read` only
+/// where the reader, and `Write` only where the writer, had a fault or a count of faults of
+/// 2^64 - 1. It answers `TooLong` only where more octets than the managed limit were read; where no
+/// contract can name the reader's octets, nothing is claimed of that. No clause can say that memory
+/// was refused.
 #[derive(Clone, Copy, Debug, PartialEq, Eq, Error)]
 pub enum LinkFault {
     /// The reader answered an error.
@@ -34,8 +35,8 @@ impl From<FlowFault> for LinkFault {
     ghost from_gives = { λ fault e. e ≡ flow_fault fault };
 
     /// The fault of an engine that couldn't hand packets on to its sink: `Memory` where memory was
-    /// refused, or an earlier call had failed (`FlowFault::Failed`), and `Write` where the sink failed
-    /// for another reason.
+    /// refused, or an earlier call had failed (`FlowFault::Failed`), and `Write` where the sink
+    /// failed for another reason.
     fn from(fault: FlowFault) -> LinkFault {
         match fault {
             FlowFault::Sink(fault) => of_sink(fault),
@@ -44,7 +45,8 @@ impl From<FlowFault> for LinkFault {
     }
 }
 
-// The device of an engine's sink is the writer. No such sink has a rule by which it refuses packets.
+// The device of an engine's sink is the writer. No such sink has a rule by which it refuses
+// packets.
 fn of_sink(fault: SinkFault) -> LinkFault
     ensures { result ≡ sink_fault fault }
 {

@@ -59,15 +59,16 @@ impl Managed {
     /// The parameters, or the first of them that is refused:
     ///
     /// - `spacecraft`, the spacecraft identifier, 0 to 1023;
-    /// - `tm_length`, the octets of each TM frame (CCSDS 132.0-B), 32 to 2048, and `tm_fecf`, whether the last two of
-    ///   them are a frame error control field;
-    /// - `tc_max`, the octets of the longest TC frame (CCSDS 232.0-B), 16 to 1024, and `tc_fecf`, whether the last two
-    ///   octets of each TC frame are a frame error control field;
+    /// - `tm_length`, the octets of each TM frame (CCSDS 132.0-B), 32 to 2048, and `tm_fecf`,
+    ///   whether the last two of them are a frame error control field;
+    /// - `tc_max`, the octets of the longest TC frame (CCSDS 232.0-B), 16 to 1024, and `tc_fecf`,
+    ///   whether the last two octets of each TC frame are a frame error control field;
     /// - `window`, the width of FARM-1's sliding window (CCSDS 232.1-B) in frames, even, 2 to 254;
     /// - `vr`, V(R) of each virtual channel of TC frames before its first frame, 0 to 255;
     /// - `max_octets`, how many octets of a recording may be read, 1 or more.
     ///
-    /// The frames of each virtual channel of TC frames have segment headers, unless [`Managed::with_plain`] follows.
+    /// The frames of each virtual channel of TC frames have segment headers, unless
+    /// [`Managed::with_plain`] follows.
     pub fn new(
         spacecraft: u16,
         tm_length: u16,
@@ -122,8 +123,9 @@ impl Managed {
     /// The spacecraft identifier, 0 to 1023.
     ///
     /// Every `Managed` meets the premise of the [`laws`](crate::laws) on normal forms: none of its
-    /// parameters is refused, and the initial V(R) of each virtual channel is one octet. The width of
-    /// its window is at most 254, as the laws on FARM-1's runs and on the order of frames want it.
+    /// parameters is refused, and the initial V(R) of each virtual channel is one octet. The width
+    /// of its window is at most 254, as the laws on FARM-1's runs and on the order of frames want
+    /// it.
     pub fn spacecraft(&self) -> u16
         ensures value { result ≡ self.now.spacecraft }
         ensures accepted { AreAccepted self.now }
@@ -134,14 +136,16 @@ impl Managed {
         self.spacecraft
     }
 
-    /// These parameters, with `plain` as the virtual channels of TC frames whose frames have no segment headers.
+    /// These parameters, with `plain` as the virtual channels of TC frames whose frames have no
+    /// segment headers.
     pub fn with_plain(self, plain: VcSet) -> Managed
         ensures { result ≡ record self { plain = plain } }
     {
         Managed { plain, ..self }
     }
 
-    /// These parameters, with the V(R) of `starts` for each virtual channel of TC frames before its first frame.
+    /// These parameters, with the V(R) of `starts` for each virtual channel of TC frames before its
+    /// first frame.
     pub fn with_starts(self, starts: Starts) -> Managed
         ensures { result ≡ record self { starts = starts } }
     {

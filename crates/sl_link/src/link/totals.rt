@@ -61,7 +61,8 @@ impl Totals {
         self.rest
     }
 
-    /// The delivered packets, idle packets left out. The count is 0 where the engine lists frames alone.
+    /// The delivered packets, idle packets left out. The count is 0 where the engine lists frames
+    /// alone.
     pub fn packets(&self) -> u64
         ensures value { result ≡ self.now.packets }
         ensures within { result ≤ self.now.octets }
@@ -77,7 +78,8 @@ impl Totals {
         self.idle
     }
 
-    /// The anomalies, one for each line of a check but that of the totals. The count is 0 after other engines.
+    /// The anomalies, one for each line of a check but that of the totals. The count is 0 after
+    /// other engines.
     pub fn anomalies(&self) -> u64
         ensures value { result ≡ self.now.anomalies }
         ensures within { result ≤ self.now.octets }

@@ -29,7 +29,8 @@ pub trait FrameSink {
         ensures fault { IfErr result (λ fault. After (took managed.now) self.old (λ start before.
             stopped managed.now start self.new (before ++ frame.now ∷ []) fault)) };
 
-    /// Called after each chunk, before the reader is asked for more octets. The frames stay the same.
+    /// Called after each chunk, before the reader is asked for more octets. The frames stay the
+    /// same.
     fn pause(&mut self) -> Result<(), LinkFault>
         ensures taken { OnOk result ((p : Parameters) → After (took p) self.old (λ start before.
             took p start self.new before)) }

@@ -333,7 +333,8 @@ fn plain_of(text: Option<&str>) -> Option<VcSet>
     }
 }
 
-// The initial V(R) of each virtual channel, `vr` where none is named, or `None` where their text is refused.
+// The initial V(R) of each virtual channel, `vr` where none is named, or `None` where their text is
+// refused.
 fn starts_of(vr: u8, text: Option<&str>) -> Option<Starts>
     ensures { AreFrom vr (option_map (λ t. t.now) text.entry) result }
 {

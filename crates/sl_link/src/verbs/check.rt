@@ -51,10 +51,12 @@ impl<D: Checked> Verb for Check<D> {
 
     ghost is_frame = { D.is_frame };
 
-    ghost listing = { λ p. check_listing (D.kind p) (anomalies_by D.lines_of (D.found p)) (D.open_at p) };
+    ghost listing = { λ p. check_listing (D.kind p) (anomalies_by D.lines_of (D.found p))
+        (D.open_at p) };
 
-    ghost has_listed = { λ verb p frames. HasChecked (D.kind p) (anomalies_by D.lines_of (D.found p))
-        (D.has_processed verb.delivery p) frames verb.so_far };
+    ghost has_listed = { λ verb p frames. HasChecked (D.kind p)
+        (anomalies_by D.lines_of (D.found p)) (D.has_processed verb.delivery p) frames
+        verb.so_far };
 
     ghost may_refuse_memory = { D.is_incomplete_at_last };
 
@@ -85,7 +87,8 @@ impl<D: Checked> Verb for Check<D> {
     }
 }
 
-// Adds the lines of what is incomplete at the end of a recording, at `offset`, and answers how many these are.
+// Adds the lines of what is incomplete at the end of a recording, at `offset`, and answers how many
+// these are.
 fn incomplete_lines<D: Checked, W: Write>(
     delivery: &D,
     offset: u64,

@@ -22,5 +22,6 @@ is_quiet found =
     && (not found.long && (found.tail == 0))))
 
 -- these frames were processed and counted, and so were their anomalies
-abbrev pub HasChecked : Kind → (List (List ℕ) → List ℕ → List (List ℕ)) → (List (List ℕ) → Type 0) → List (List ℕ) → Counts → Type 0
+abbrev pub HasChecked : Kind → (List (List ℕ) → List ℕ → List (List ℕ)) → (List (List ℕ) → Type 0)
+    → List (List ℕ) → Counts → Type 0
 HasChecked k anomalies_at had frames = HasDelivered k had frames (length (lines_from anomalies_at [] frames))

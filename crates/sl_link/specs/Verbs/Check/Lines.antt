@@ -42,25 +42,32 @@ totals_line counts =
 
 -- the lines of a frame that comes after others, by what is found of it and the lines of what is found
 -- at an offset, which is where the frame begins
-abbrev pub anomalies_by : {Found : Type 0} → (ℕ → Found → List (List ℕ)) → (List (List ℕ) → List ℕ → Found) → List (List ℕ)
-    → List ℕ → List (List ℕ)
+abbrev pub anomalies_by : {Found : Type 0} → (ℕ → Found → List (List ℕ)) → (List (List ℕ) → List ℕ → Found)
+    → List (List ℕ) → List ℕ → List (List ℕ)
 anomalies_by lines found before frame = lines (length (concat before)) (found before frame)
 
 -- the lines after frames: that of the remainder, which has `remainder` octets, and those of what is
 -- incomplete on each channel at the end of the recording
 abbrev pub end_anomalies : Kind → (ℕ → List (List ℕ) → ℕ → List (List ℕ)) → List (List ℕ) → ℕ → List (List ℕ)
-end_anomalies k open_at frames remainder = remainder_anomaly (length (concat frames)) remainder ++ flat_map (open_at (length (concat frames) + remainder) frames) k.channels
+end_anomalies k open_at frames remainder =
+    remainder_anomaly (length (concat frames)) remainder
+    ++ flat_map (open_at (length (concat frames) + remainder) frames) k.channels
 
 -- what is counted: each line but that of the totals is an anomaly
-abbrev pub check_counts_in : Kind → (List (List ℕ) → List ℕ → List (List ℕ)) → (ℕ → List (List ℕ) → ℕ → List (List ℕ)) → List (List ℕ) → ℕ → Counts
+abbrev pub check_counts_in : Kind → (List (List ℕ) → List ℕ → List (List ℕ))
+    → (ℕ → List (List ℕ) → ℕ → List (List ℕ)) → List (List ℕ) → ℕ → Counts
 check_counts_in k anomalies_at open_at frames remainder =
-    record (counts_in k frames remainder) { anomalies = length (lines_from anomalies_at [] frames) + length (end_anomalies k open_at frames remainder) }
+    record (counts_in k frames remainder) {
+      anomalies = length (lines_from anomalies_at [] frames) + length (end_anomalies k open_at frames remainder);
+    }
 
 -- the listing: the lines of each frame, those after the last one, and the totals
-abbrev pub check_listing : Kind → (List (List ℕ) → List ℕ → List (List ℕ)) → (ℕ → List (List ℕ) → ℕ → List (List ℕ)) → Listing
+abbrev pub check_listing : Kind → (List (List ℕ) → List ℕ → List (List ℕ))
+    → (ℕ → List (List ℕ) → ℕ → List (List ℕ)) → Listing
 check_listing k anomalies_at open_at =
     record {
       line = λ before frame. concat (anomalies_at before frame);
-      last = λ frames remainder. concat (end_anomalies k open_at frames remainder) ++ totals_line (check_counts_in k anomalies_at open_at frames remainder);
+      last = λ frames remainder. concat (end_anomalies k open_at frames remainder)
+          ++ totals_line (check_counts_in k anomalies_at open_at frames remainder);
       counts = check_counts_in k anomalies_at open_at;
     }

@@ -24,8 +24,8 @@ pub trait Checked: Delivery {
     /// that the line names, the frames so far, and the channel's number.
     ghost open_at: { Parameters → ℕ → List (List ℕ) → ℕ → List (List ℕ) };
 
-    /// Adds the lines of what is found of a frame that begins at `offset`, and answers how many lines
-    /// these are.
+    /// Adds the lines of what is found of a frame that begins at `offset`, and answers how many
+    /// lines these are.
     fn anomaly_lines(lines: &mut Lines, offset: u64, found: Self::Found) -> u64
         requires { HasRoom lines.old }
         ensures text { lines.new ≡ lines.old ++ concat (lines_of offset found) }
@@ -38,7 +38,8 @@ pub trait Checked: Delivery {
     /// How many channels there are.
     ghost channel_limit: { ℕ };
 
-    /// The number of a channel: nothing is incomplete on this channel, nor on one of a greater number.
+    /// The number of a channel: nothing is incomplete on this channel, nor on one of a greater
+    /// number.
     fn open_below(&self) -> u16
         ensures most { result ≤ channel_limit }
         ensures none { (p : Parameters) (offset : ℕ) (frames : List (List ℕ))
@@ -54,7 +55,8 @@ pub trait Checked: Delivery {
     fn open_lines(&self, offset: u64, channel: u16, lines: &mut Lines) -> u64
         requires channel { channel < channel_limit }
         requires room { HasRoom lines.old }
-        ensures added { (p : Parameters) (frames : List (List ℕ)) → Self.has_processed self.now p frames
+        ensures added { (p : Parameters) (frames : List (List ℕ))
+            → Self.has_processed self.now p frames
             → AddsAnomalies lines.old (open_at p offset frames channel) lines.new result }
         ensures few { result ≤ 1 };
 }

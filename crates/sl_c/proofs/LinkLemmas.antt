@@ -1,18 +1,11 @@
 -- The parameters that C gives, made into those of a link.
-use Rattle.std.proofs.Common.{◌≡◌, ℕ, ◌+◌, ◌<◌, suc, Bool, true, false, List, [], ◌∷◌, ◌++◌, length, take, drop, get_or, set, refl, sym, ap, ◌∙◌, arith, add-one}
-use Rattle.std.proofs.Math.Nat.{lt-suc_self, lt_trans}
-use Rattle.std.proofs.lemmas.Bool.{lt-ltb}
+use Rattle.std.proofs.Common.{◌≡◌, ℕ, ◌+◌, ◌<◌, Bool, true, false, List, [], ◌∷◌, ◌++◌, length, take, drop, get_or, set, sym, ap, ◌∙◌, arith, add-one}
 use Rattle.std.proofs.lemmas.List.{drop_all, drop_more, length-set, take_all, take_more, take_more_set}
 use Rattle.sl_tcframe.specs.VcSet.{with_vc}
 use Rattle.sl_tcframe.specs.VcSetModel.{numbers_from}
+use Rattle.sl_tcframe.proofs.VcSetLemmas.{with_below}
 
 -- ---- virtual channels whose flag is set
-
--- a number below them is put before them
-with_vc-front : (first : ℕ) (flags : List Bool) (vc : ℕ) → vc < first → with_vc (numbers_from first flags) vc ≡ vc ∷ numbers_from first flags
-with_vc-front first [] vc low = refl
-with_vc-front first (true ∷ flags) vc low = rw (lt-ltb vc first low)
-with_vc-front first (false ∷ flags) vc low = with_vc-front (suc first) flags vc (lt_trans low (lt-suc_self first))
 
 -- the flags from this one on are set at these numbers
 abbrev pub AreSetFrom : ℕ → List Bool → List ℕ → Type 0
@@ -30,7 +23,7 @@ module _ (flags : List Bool) (vcs vcs' : List ℕ) (n m vc : ℕ) (d : Bool) whe
   set_here after at inside is_set added are =
       added
       ∙ ap (λ l. with_vc l vc) (are ∙ ap numbers_at after)
-      ∙ with_vc-front (vc + 1) (drop (vc + 1) flags) vc (omega arith)
+      ∙ with_below (vc + 1) (drop (vc + 1) flags) vc (omega arith)
       ∙ ap (λ n. vc ∷ numbers_from n (drop (vc + 1) flags)) (add-one vc)
       ∙ sym (ap (numbers_from vc) (drop_more flags vc d inside ∙ ap (λ b. b ∷ drop (vc + 1) flags) is_set))
       ∙ sym (ap numbers_at at)

@@ -24,7 +24,7 @@ numbers_rise first (true ∷ flags) few = (omega arith, omega arith, numbers_ris
 numbers_rise first (false ∷ flags) few = rising_lower first (numbers_from (suc first) flags) (numbers_rise (suc first) flags (omega arith))
 
 -- a number below the first one is added in front
-with_below : (first : ℕ) (flags : List Bool) (vc : ℕ) → vc < first → with_vc (numbers_from first flags) vc ≡ vc ∷ numbers_from first flags
+pub with_below : (first : ℕ) (flags : List Bool) (vc : ℕ) → vc < first → with_vc (numbers_from first flags) vc ≡ vc ∷ numbers_from first flags
 with_below first [] vc low = refl
 with_below first (true ∷ flags) vc low = rw (lt-ltb vc first low) refl
 with_below first (false ∷ flags) vc low = with_below (suc first) flags vc (omega arith)

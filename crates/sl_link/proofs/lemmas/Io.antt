@@ -4,5 +4,7 @@ pub mod Buffer
 pub mod Digits
 -- octets in hexadecimal
 pub mod Hexadecimal
+-- an offset in front of a line
+pub mod Line
 -- faults, reads, writes, and texts added to an output
 pub mod Streams

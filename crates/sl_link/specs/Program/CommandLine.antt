@@ -51,22 +51,28 @@ bits_16 = Signed (pos 0) (pos 65535)
 abbrev pub bits_64 : ValueParser
 bits_64 = Unsigned 0 18446744073709551615
 
--- `--NAME NUMBER`
-abbrev pub number_rule : Text → ValueParser → Rule
-number_rule name numbers =
-    record (new_rule name) { long = Some name; value_names = 1; parser = Some numbers }
-
--- the same, which no command line may leave out
-abbrev pub needed_number : Text → ValueParser → Rule
-needed_number name numbers = record (number_rule name numbers) { required = true }
-
--- the same, with the number that stands where it is left out
-abbrev pub number_or : Text → ValueParser → Text → Rule
-number_or name numbers default = record (number_rule name numbers) { defaults = default ∷ [] }
-
 -- `--NAME TEXT`, which may be left out
 abbrev pub text_rule : Text → Rule
 text_rule name = record (new_rule name) { long = Some name; value_names = 1 }
+
+-- an option that takes one of these numbers, one that no command line may leave out, and one with the text that stands
+-- where it is left out
+abbrev pub with_numbers : Rule → ValueParser → Rule
+with_numbers option numbers = record option { parser = Some numbers }
+
+abbrev pub needed : Rule → Rule
+needed option = record option { required = true }
+
+abbrev pub with_default : Rule → Text → Rule
+with_default option default = record option { defaults = default ∷ [] }
+
+-- `--NAME NUMBER`, which no command line may leave out
+abbrev pub needed_number : Text → ValueParser → Rule
+needed_number name numbers = needed (with_numbers (text_rule name) numbers)
+
+-- the same, with the number that stands where it is left out
+abbrev pub number_or : Text → ValueParser → Text → Rule
+number_or name numbers default = with_default (with_numbers (text_rule name) numbers) default
 
 -- `--NAME`, which takes no value
 abbrev pub flag_rule : Text → Rule
@@ -91,9 +97,13 @@ link_options =
 abbrev pub with_link_options : App → App
 with_link_options app = fold with_rule app link_options
 
--- a verb, with the kinds of recording that it takes
+-- a command, with the kinds of recording that it takes and the options of the link
+abbrev pub with_arguments : App → Bor (List (Bor Text)) → App
+with_arguments app kinds = with_link_options (with_rule app (kind_rule kinds))
+
+-- a verb
 abbrev pub verb_app : Text → Bor (List (Bor Text)) → App
-verb_app name kinds = with_link_options (with_rule (new_app name) (kind_rule kinds))
+verb_app name kinds = with_arguments (new_app name) kinds
 
 -- `sllink` before its verbs are added. The contract of a private function alone cites this.
 abbrev pub top_app : App

@@ -1,12 +1,12 @@
 //! The command line.
 ghost use Rattle.std.specs.Prelude.{◌≡◌, ◌⊎◌, false, map, option_map, string_bytes, IfOk, IfErr};
-ghost use Rattle.clap.specs.Words.{app_of, found_of, kind_of, rows_of, rule_of, with_subcommand};
+ghost use Rattle.clap.specs.Words.{app_of, found_of, kind_of, new_app, rows_of, rule_of, with_subcommand};
 ghost use Rattle.clap.specs.declared.builder.Command.TheViews.{out-Command as fields_of};
 ghost use Rattle.sl_link.specs.Link.Managed.{managed_of};
 ghost use Rattle.sl_link.specs.Program.CommandLine.{AreFrom, AskFor, Asks, IsPlain, IsRefusal, IsSllink, flag_rule};
-ghost use Rattle.sl_link.specs.Program.CommandLine.{is_set, kind_named, link_options, needed_number, number_in};
-ghost use Rattle.sl_link.specs.Program.CommandLine.{number_or, number_rule, parameters_in, text_rule, top_app};
-ghost use Rattle.sl_link.specs.Program.CommandLine.{verb_app, verb_named, with_link_options, with_vcs};
+ghost use Rattle.sl_link.specs.Program.CommandLine.{is_set, kind_named, link_options, needed, number_in};
+ghost use Rattle.sl_link.specs.Program.CommandLine.{parameters_in, text_rule, top_app, verb_named, with_arguments};
+ghost use Rattle.sl_link.specs.Program.CommandLine.{with_default, with_link_options, with_numbers, with_vcs};
 
 use crate::engine::{RecordingKind, VerbName};
 use crate::link::managed::{Managed, ManagedFault};
@@ -114,13 +114,17 @@ fn sllink<'a>(alloc: Global) -> Result<Command<'a>, AllocError>
     let kinds = &KINDS;
     let command = without_verbs(alloc);
     let about = "List the frames of a recording";
-    let command = with_verb(alloc, command, "show", about, SHOW_EXAMPLE, kinds)?;
+    let verb = bare_verb(alloc, "show", about, SHOW_EXAMPLE);
+    let command = with_verb(alloc, command, verb, kinds)?;
     let about = "List the anomalies of a recording";
-    let command = with_verb(alloc, command, "check", about, CHECK_EXAMPLE, kinds)?;
+    let verb = bare_verb(alloc, "check", about, CHECK_EXAMPLE);
+    let command = with_verb(alloc, command, verb, kinds)?;
     let about = "List the packets of a recording";
-    let command = with_verb(alloc, command, "packets", about, PACKETS_EXAMPLE, kinds)?;
+    let verb = bare_verb(alloc, "packets", about, PACKETS_EXAMPLE);
+    let command = with_verb(alloc, command, verb, kinds)?;
     let about = "Write the normal form of a recording";
-    with_verb(alloc, command, "normalise", about, NORMALISE_EXAMPLE, kinds)
+    let verb = bare_verb(alloc, "normalise", about, NORMALISE_EXAMPLE);
+    with_verb(alloc, command, verb, kinds)
 }
 
 // `sllink` before its verbs are added.
@@ -134,38 +138,44 @@ fn without_verbs<'a>(alloc: Global) -> Command<'a>
         .subcommand_required(true)
 }
 
+// A verb before it has arguments, with what its help says.
+fn bare_verb<'a>(alloc: Global, name: &'a str, about: &'a str, example: &'a str) -> Command<'a>
+    ensures app { app_of result ≡ new_app name.entry.now }
+    ensures local { (fields_of result).has_globals ≡ false }
+{
+    Command::new(alloc, name).about(about).after_help(example)
+}
+
 // The command with one verb more.
 fn with_verb<'a>(
     alloc: Global,
     command: Command<'a>,
-    name: &'a str,
-    about: &'a str,
-    example: &'a str,
+    verb: Command<'a>,
     kinds: &'a [&'a str],
 ) -> Result<Command<'a>, AllocError>
-    ensures { IfOk result (λ with. app_of with
-        ≡ with_subcommand (app_of command.entry) (verb_app name.entry.now kinds.entry).top) }
+    requires { (fields_of verb.entry).has_globals ≡ false }
+    ensures { IfOk result (λ with. app_of with ≡ with_subcommand (app_of command.entry)
+        (with_arguments (app_of verb.entry) kinds.entry).top) }
 {
-    command.subcommand(verb_command(alloc, name, about, example, kinds)?)
+    command.subcommand(with_arguments(alloc, verb, kinds)?)
 }
 
 // A verb, with the kinds of recording that it takes and the options of the link.
-fn verb_command<'a>(
+fn with_arguments<'a>(
     alloc: Global,
-    name: &'a str,
-    about: &'a str,
-    example: &'a str,
+    verb: Command<'a>,
     kinds: &'a [&'a str],
 ) -> Result<Command<'a>, AllocError>
-    ensures app { IfOk result (λ command. app_of command ≡ verb_app name.entry.now kinds.entry) }
-    ensures local { IfOk result (λ command. (fields_of command).has_globals ≡ false) }
+    ensures app { IfOk result (λ command.
+        app_of command ≡ with_arguments (app_of verb.entry) kinds.entry) }
+    ensures local { IfOk result (λ command.
+        (fields_of command).has_globals ≡ (fields_of verb.entry).has_globals) }
 {
     let kind = Arg::new(alloc, KIND)
         .value_name("KIND")
         .help("Transfer frames of the recording: TM, the way down, or TC, the way up")
         .value_parser(kinds)
         .required(true);
-    let verb = Command::new(alloc, name).about(about).after_help(example);
     with_options(alloc, verb.arg(kind)?)
 }
 
@@ -186,70 +196,26 @@ fn link_options<'a>(alloc: Global) -> Result<Vec<Arg<'a>>, AllocError>
     let short = value_parser!(u16);
     let long = value_parser!(u64);
     let help = "Spacecraft identifier, in decimal, 0 to 1023";
-    let scid = needed_number(alloc, SPACECRAFT, "ID", help, short);
+    let scid = needed_number(text(alloc, SPACECRAFT, "ID", help), short);
     let help = "Length of each TM frame in octets, 32 to 2048";
-    let tm_length = number_or(alloc, TM_LENGTH, "OCTETS", help, short, "1115");
+    let tm_length = number_or(text(alloc, TM_LENGTH, "OCTETS", help), short, "1115");
     let help = "Greatest length of a TC frame in octets, 16 to 1024";
-    let tc_length = number_or(alloc, TC_LENGTH, "OCTETS", help, short, "1024");
+    let tc_length = number_or(text(alloc, TC_LENGTH, "OCTETS", help), short, "1024");
     let tm_fecf = flag(alloc, TM_FECF, "TM frames have a frame error control field");
     let tc_fecf = flag(alloc, TC_FECF, "TC frames have a frame error control field");
     let help = "Width of the FARM-1 sliding window in frames, even, 2 to 254";
-    let window = number_or(alloc, WINDOW, "WIDTH", help, byte, "10");
+    let window = number_or(text(alloc, WINDOW, "WIDTH", help), byte, "10");
     let help = "V(R) with which each FARM-1 begins, 0 to 255";
-    let vr = number_or(alloc, VR, "NUMBER", help, byte, "0");
+    let vr = number_or(text(alloc, VR, "NUMBER", help), byte, "0");
     let help = "Initial V(R), 0 to 255, of these virtual channels, 0 to 63 in rising order";
     let vr_of = text(alloc, VR_OF, "VC:NUMBER,..", help);
     let help = "Virtual channels whose TC frames have no segment headers, 0 to 63 in rising order";
     let plain = text(alloc, PLAIN, "VC,..", help);
     let help = "Octets read at most, 1 to 18446744073709551615";
-    let limit = number_or(alloc, LIMIT, "OCTETS", help, long, "1073741824");
+    let limit = number_or(text(alloc, LIMIT, "OCTETS", help), long, "1073741824");
     Ok(vec![in alloc;
         scid, tm_length, tc_length, tm_fecf, tc_fecf, window, vr, vr_of, plain, limit,
     ]?)
-}
-
-// An option that takes a number, and that no command line may leave out.
-fn needed_number<'a>(
-    alloc: Global,
-    name: &'a str,
-    unit: &'a str,
-    help: &'a str,
-    range: ValueParser<'a>,
-) -> Arg<'a>
-    ensures { rule_of result ≡ needed_number name.entry.now range.entry }
-{
-    number(alloc, name, unit, help, range).required(true)
-}
-
-// An option that takes a number, and has this one where it is left out.
-fn number_or<'a>(
-    alloc: Global,
-    name: &'a str,
-    unit: &'a str,
-    help: &'a str,
-    range: ValueParser<'a>,
-    default: &'a str,
-) -> Arg<'a>
-    ensures { rule_of result ≡ number_or name.entry.now range.entry default.entry.now }
-{
-    number(alloc, name, unit, help, range).default_value(default)
-}
-
-// An option that takes a number.
-fn number<'a>(
-    alloc: Global,
-    name: &'a str,
-    unit: &'a str,
-    help: &'a str,
-    range: ValueParser<'a>,
-) -> Arg<'a>
-    ensures { rule_of result ≡ number_rule name.entry.now range.entry }
-{
-    Arg::new(alloc, name)
-        .long(name)
-        .value_name(unit)
-        .help(help)
-        .value_parser(range)
 }
 
 // An option that takes a text, and may be left out.
@@ -257,6 +223,28 @@ fn text<'a>(alloc: Global, name: &'a str, unit: &'a str, help: &'a str) -> Arg<'
     ensures { rule_of result ≡ text_rule name.entry.now }
 {
     Arg::new(alloc, name).long(name).value_name(unit).help(help)
+}
+
+// The option, which takes a number then, and which no command line may leave out.
+fn needed_number<'a>(option: Arg<'a>, range: ValueParser<'a>) -> Arg<'a>
+    ensures { rule_of result ≡ needed (with_numbers (rule_of option.entry) range.entry) }
+{
+    number(option, range).required(true)
+}
+
+// The option, which takes a number then, and has this one where it is left out.
+fn number_or<'a>(option: Arg<'a>, range: ValueParser<'a>, default: &'a str) -> Arg<'a>
+    ensures { rule_of result
+        ≡ with_default (with_numbers (rule_of option.entry) range.entry) default.entry.now }
+{
+    number(option, range).default_value(default)
+}
+
+// The option, which takes a number then, in place of any text.
+fn number<'a>(option: Arg<'a>, range: ValueParser<'a>) -> Arg<'a>
+    ensures { rule_of result ≡ with_numbers (rule_of option.entry) range.entry }
+{
+    option.value_parser(range)
 }
 
 // An option that takes no value.

@@ -34,7 +34,7 @@ use Rattle.sl_link.proofs.lemmas.Program.SameWalk.{same_fault, same_subcommand}
 -- ---- arguments
 
 -- an argument that is not global makes no command global
-stays_local : (has_globals : Bool) (global : Bool) → global ≡ false → (has_globals || global) ≡ has_globals
+pub stays_local : (has_globals : Bool) (global : Bool) → global ≡ false → (has_globals || global) ≡ has_globals
 stays_local true global e = refl
 stays_local false global e = e
 

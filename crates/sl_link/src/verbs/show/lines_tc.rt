@@ -8,9 +8,9 @@ ghost use Rattle.sl_tcflow.specs.Farms.{HaveStepped, farm_of};
 ghost use Rattle.sl_tcflow.specs.ReceptionParameters.{ReceptionParameters};
 ghost use Rattle.sl_tcflow.specs.Series.{header_at};
 ghost use Rattle.sl_link.specs.Kind.Delivery.{with_frame};
-ghost use Rattle.sl_link.specs.Io.Line.{line_at, verdict_word};
+ghost use Rattle.sl_link.specs.Io.Line.{verdict_word};
 ghost use Rattle.sl_link.specs.Verbs.Show.Tc.{flags_word, unit_text, content_text, step_text, tc_view_text, tc_frame_text};
-ghost use Rattle.sl_link.specs.Io.Room.{HasRoom, HasRoomFor, fields_width, number_width, part_width, text_width, words_width};
+ghost use Rattle.sl_link.specs.Io.Room.{HasRoomFor, fields_width, number_width, part_width, text_width, words_width};
 
 use crate::io::lines::Lines;
 use crate::io::words::{push_tc_skip, push_verdict};
@@ -19,23 +19,22 @@ use sl_fields::{SegmentHeader, front};
 use sl_tcflow::Farms;
 use sl_tcframe::{TcContent, TcFrame, TcSkip, VcSet};
 
-/// Adds the line of a frame at this offset. FARM-1 of its virtual channel takes the frame first,
-/// unless it is skipped. The frames of the virtual channels of `plain` have no segment headers.
+/// Adds the line of a frame, but for its offset. FARM-1 of its virtual channel takes the frame
+/// first, unless it is skipped. The frames of the virtual channels of `plain` have no segment
+/// headers.
 pub fn tc_frame_line(
     lines: &mut Lines,
-    offset: u64,
     plain: &VcSet,
     farms: &mut Farms,
     read: &Result<TcFrame, TcSkip>,
 )
-    requires { HasRoom lines.old }
+    requires { HasRoomFor (text_width + 1) lines.old }
     ensures line { (r : ReceptionParameters) (views : List TcView) → HaveStepped r farms.old views
-        → lines.new ≡ lines.old ++ line_at offset (tc_frame_text plain.now
-        (λ vc. farm_of r vc views) read.now) }
+        → lines.new ≡ lines.old ++ (tc_frame_text plain.now (λ vc. farm_of r vc views) read.now
+        ++ codes "\n") }
     ensures farms { (r : ReceptionParameters) (views : List TcView) → HaveStepped r farms.old views
         → HaveStepped r farms.new (with_frame views read.now) }
 {
-    lines.push_number(offset);
     match read {
         Ok(frame) => push_tc_view(lines, plain.has(frame.vc()), farms, frame),
         Err(reason) => push_tc_skip(lines, *reason),

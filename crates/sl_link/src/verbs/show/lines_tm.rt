@@ -1,21 +1,19 @@
 //! The lines of a TM recording's listing.
-ghost use Rattle.std.specs.Prelude.{◌≡◌, ◌+◌, ◌≤◌, ◌++◌, length};
+ghost use Rattle.std.specs.Prelude.{◌≡◌, ◌+◌, ◌≤◌, ◌++◌, codes, length};
 ghost use Rattle.sl_tmframe.specs.TmField.{data_field};
-ghost use Rattle.sl_link.specs.Io.Line.{line_at};
 ghost use Rattle.sl_link.specs.Verbs.Show.Tm.{clcw_fields_text, word_text, control_text, field_text, counts_text, tm_view_text, tm_frame_text};
-ghost use Rattle.sl_link.specs.Io.Room.{HasRoom, HasRoomFor, fields_width, part_width, text_width, words_width};
+ghost use Rattle.sl_link.specs.Io.Room.{HasRoomFor, fields_width, part_width, text_width, words_width};
 
 use crate::io::lines::Lines;
 use crate::io::words::{push_flag, push_tm_skip};
 use sl_fields::Clcw;
 use sl_tmframe::{TmField, TmFrame, TmSkip};
 
-/// Adds the line of a frame at this offset.
-pub fn tm_frame_line(lines: &mut Lines, offset: u64, read: &Result<TmFrame, TmSkip>)
-    requires { HasRoom lines.old }
-    ensures { lines.new ≡ lines.old ++ line_at offset (tm_frame_text read.now) }
+/// Adds the line of a frame, but for its offset.
+pub fn tm_frame_line(lines: &mut Lines, read: &Result<TmFrame, TmSkip>)
+    requires { HasRoomFor (text_width + 1) lines.old }
+    ensures { lines.new ≡ lines.old ++ (tm_frame_text read.now ++ codes "\n") }
 {
-    lines.push_number(offset);
     match read {
         Ok(frame) => push_tm_view(lines, frame),
         Err(reason) => push_tm_skip(lines, *reason),

@@ -1,7 +1,7 @@
 //! How a frame of a kind, TM or TC, is shown.
-ghost use Rattle.std.specs.Prelude.{◌≡◌, ◌<◌, ◌++◌, ◌∷◌, [], ℕ, Bool, List, length};
+ghost use Rattle.std.specs.Prelude.{◌≡◌, ◌+◌, ◌<◌, ◌++◌, ◌∷◌, [], ℕ, Bool, List, decimal, length};
 ghost use Rattle.std.specs.List.{concat};
-ghost use Rattle.sl_link.specs.Io.Room.{HasRoom};
+ghost use Rattle.sl_link.specs.Io.Room.{HasRoomFor, text_width};
 
 use crate::io::lines::Lines;
 use crate::link::managed::Managed;
@@ -31,16 +31,18 @@ pub trait Shown: Drop {
     fn begin(managed: &Managed) -> Self
         ensures { has_shown result managed.now [] };
 
-    /// Adds the line of the next frame, at its offset, and answers whether the frame is skipped.
-    fn show(&mut self, managed: &Managed, frame: &[u8], offset: u64, lines: &mut Lines) -> bool
+    /// Adds the line of the next frame, but for its offset, which was added before, and answers
+    /// whether the frame is skipped.
+    fn show(&mut self, managed: &Managed, frame: &[u8], lines: &mut Lines) -> bool
         requires before { (before : List (List ℕ)) × has_shown self.old managed.now before
             × is_frame managed.now frame.now }
-        requires room { HasRoom lines.old }
+        requires room { HasRoomFor (text_width + 1) lines.old }
         ensures skipped { result ≡ is_skipped managed.now frame.now }
         ensures some { 0 < length frame.now }
-        ensures line { (before : List (List ℕ)) → has_shown self.old managed.now before
-            → offset ≡ length (concat before)
-            → lines.new ≡ lines.old ++ line managed.now before frame.now }
+        ensures line { (before : List (List ℕ)) (start : List ℕ)
+            → has_shown self.old managed.now before
+            → lines.old ≡ start ++ decimal (length (concat before))
+            → lines.new ≡ start ++ line managed.now before frame.now }
         ensures shown { (before : List (List ℕ)) → has_shown self.old managed.now before
             → has_shown self.new managed.now (before ++ frame.now ∷ []) };
 }
@@ -66,9 +68,9 @@ impl Shown for TmFrames {
         TmFrames
     }
 
-    fn show(&mut self, managed: &Managed, frame: &[u8], offset: u64, lines: &mut Lines) -> bool {
+    fn show(&mut self, managed: &Managed, frame: &[u8], lines: &mut Lines) -> bool {
         let read = TmFrame::read(&managed.tm, managed.spacecraft, frame);
-        tm_frame_line(lines, offset, &read);
+        tm_frame_line(lines, &read);
         read.is_err()
     }
 }
@@ -93,9 +95,9 @@ impl Shown for Farms {
         Farms::new(managed.window, &managed.starts)
     }
 
-    fn show(&mut self, managed: &Managed, frame: &[u8], offset: u64, lines: &mut Lines) -> bool {
+    fn show(&mut self, managed: &Managed, frame: &[u8], lines: &mut Lines) -> bool {
         let read = TcFrame::read(&managed.tc, managed.spacecraft, frame);
-        tc_frame_line(lines, offset, &managed.plain, self, &read);
+        tc_frame_line(lines, &managed.plain, self, &read);
         read.is_err()
     }
 }

@@ -1,6 +1,6 @@
 use Rattle.std.proofs.Common.{◌∙◌, [], ◌∷◌, ap, codes, map}
 use Rattle.clap.specs.Words.{rule_of}
-use Rattle.sl_link.specs.Program.CommandLine.{flag_rule, needed_number, number_or, text_rule}
+use Rattle.sl_link.specs.Program.CommandLine.{flag_rule, needed, text_rule, with_default, with_numbers}
 use Rattle.sl_link.proofs.program.command_line.link_options.Goals as goal
 
 pub returns : goal.returns
@@ -10,5 +10,5 @@ returns c =
     let long = c.value_parser-long.ensures in
     ap (map rule_of) c.in_ok-vec.ensures.items
     ∙ (λ i. c.needed_number-scid.ensures i ∷ c.number_or-tm_length.ensures i ∷ c.number_or-tc_length.ensures i ∷ c.flag-tm_fecf.ensures i ∷ c.flag-tc_fecf.ensures i ∷ c.number_or-window.ensures i ∷ c.number_or-vr.ensures i ∷ c.text-vr_of.ensures i ∷ c.text-plain.ensures i ∷ c.number_or-limit.ensures i ∷ [])
-    ∙ (λ i. needed_number (codes "scid") (short i) ∷ number_or (codes "tm-length") (short i) (codes "1115") ∷ number_or (codes "tc-length") (short i) (codes "1024") ∷ flag_rule (codes "tm-fecf") ∷ flag_rule (codes "tc-fecf")
-    ∷ number_or (codes "window") (byte i) (codes "10") ∷ number_or (codes "vr") (byte i) (codes "0") ∷ text_rule (codes "vr-of") ∷ text_rule (codes "plain") ∷ number_or (codes "limit") (long i) (codes "1073741824") ∷ [])
+    ∙ (λ i. needed (with_numbers (c.text.ensures i) (short i)) ∷ with_default (with_numbers (c.text-2.ensures i) (short i)) (codes "1115") ∷ with_default (with_numbers (c.text-3.ensures i) (short i)) (codes "1024") ∷ flag_rule (codes "tm-fecf") ∷ flag_rule (codes "tc-fecf")
+    ∷ with_default (with_numbers (c.text-4.ensures i) (byte i)) (codes "10") ∷ with_default (with_numbers (c.text-5.ensures i) (byte i)) (codes "0") ∷ text_rule (codes "vr-of") ∷ text_rule (codes "plain") ∷ with_default (with_numbers (c.text-6.ensures i) (long i)) (codes "1073741824") ∷ [])

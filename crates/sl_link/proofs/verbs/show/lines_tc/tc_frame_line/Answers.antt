@@ -12,6 +12,6 @@ returns-clause-farms c = λ r views stepped.
 pub returns-clause-line : goal.returns-clause-line
 returns-clause-line c = λ r views stepped.
     elim c.match-read.branch [
-      | in-Ok w ↦ simp (c.push.ensures, w.lines-is, w.push_tc_view.ensures.text r views stepped, c.push_number.ensures.text, w.in-Ok.is, w.has.ensures.value, w.vc.ensures.value, append_assoc)
-      | in-Err w ↦ simp (c.push.ensures, w.lines-is, w.push_tc_skip.ensures.text, c.push_number.ensures.text, w.in-Err.is, append_assoc)
+      | in-Ok w ↦ simp (c.push.ensures, w.lines-is, w.push_tc_view.ensures.text r views stepped, w.in-Ok.is, w.has.ensures.value, w.vc.ensures.value, append_assoc)
+      | in-Err w ↦ simp (c.push.ensures, w.lines-is, w.push_tc_skip.ensures.text, w.in-Err.is, append_assoc)
     ]

@@ -1,17 +1,14 @@
 //! The normal form of delivered packets, made piece by piece.
-ghost use Rattle.std.specs.Prelude.{ℕ, List, [], ◌≡◌, ◌≢◌, ◌+◌, ◌*◌, ◌%◌, ◌<◌, ◌≤◌, ◌++◌, None};
-ghost use Rattle.std.specs.Prelude.{Some, length, take, false, IfOk, OnOk, OnErr, IfSome, IsTrue};
-ghost use Rattle.std.specs.List.{AllByRecursion, concat, slice_index_or};
+ghost use Rattle.std.specs.Prelude.{◌≡◌, ◌≢◌, ◌+◌, ◌*◌, ◌<◌, ◌≤◌, ◌++◌, [], None, Some, length, take};
+ghost use Rattle.std.specs.Prelude.{IfOk, OnOk, OnErr, IfSome, IsTrue, IsFalse};
+ghost use Rattle.std.specs.List.{concat};
 ghost use Rattle.std.specs.Vec.{vec_len, vec_capacity};
-ghost use Rattle.sl_packet.specs.Delivered.{HasNone, IsDeliverable, list_at};
+ghost use Rattle.sl_packet.specs.Packet.{longest_packet};
 ghost use Rattle.sl_tmframe.specs.PacketFrame.{field_room_of};
 ghost use Rattle.sl_tmframe.specs.TmFrame.{longest_field};
-ghost use Rattle.sl_tmflow.specs.Canonical.{AreDeliverable, IsFormat};
-ghost use Rattle.sl_tmflow.specs.Form.{IsLeft, AddsPiece, IsAllMade, KeepsLeft, IsOfPackets};
-ghost use Rattle.sl_tmflow.specs.Form.{IsReserved, LacksRoom, HasMore, HasFewer, HasNoMore};
-ghost use Rattle.sl_tmflow.specs.Form.{form_of, piece_room, octets_room, heading_after};
-ghost use Rattle.sl_tmflow.specs.Form.{frames_of, frames_len, fields_in, beyond_fields};
-ghost use Rattle.sl_tmflow.specs.Form.{filled_up, progress_after};
+ghost use Rattle.sl_tmflow.specs.Form.{AddsPiece, IsReserved, LacksRoom, form_of, piece_room};
+ghost use Rattle.sl_tmflow.specs.Form.{octets_room, heading_after, filled_up, frames_of};
+ghost use Rattle.sl_tmflow.specs.Form.{frames_len, fields_in, beyond_fields};
 ghost use Rattle.sl_tmflow.specs.NormalForm.{fill_of, filling};
 ghost use Rattle.sl_tmflow.specs.Recording.{tm_lists};
 
@@ -31,23 +28,21 @@ const PIECE: usize = 90_112;
 const OCTETS: usize = 4096;
 
 /// The normal form of delivered packets, made piece by piece: frames of CCSDS 132.0-B in this
-/// project's own order (docs/normal-form.md).
+/// project's own order (docs/normal-form.md). In clauses `left` is the list of its octets that are
+/// still to come.
 ///
-/// A piece is the next octets of the form; no clause says how many. As the code is written, a piece
-/// is the frames that the next packet of a virtual channel completes, perhaps none. Where an idle
-/// packet fills the virtual channel up, the frames that this packet completes are a piece too.
-/// Octets of packets that don't fill a data field yet are kept for the next piece: 2041 octets at
-/// most.
+/// A piece is the next octets of the form, at least one; no clause says how many. As the code is
+/// written, a piece is the frames that one packet completes, which may be the idle packet that fills
+/// a virtual channel up. Octets of packets that don't fill a data field yet are kept for the next
+/// piece: 2041 octets at most.
 #[derive(Drop)]
 pub struct TmForm<'d> {
     shape: TmShape,
     delivered: &'d Delivered,
-    // The header of the next frame. Its virtual channel is the one whose packets are taken now, and
-    // 8 where no virtual channel is left.
+    // The header of the next frame. Its virtual channel is the one whose packets are taken now.
     heading: Heading,
-    // The number of packets of this virtual channel that were taken, the idle packet that fills the
-    // channel up included.
-    taken: usize,
+    // The packets of this virtual channel that weren't taken.
+    packets: &'d [Vec<u8>],
     // The octets of the taken packets that don't fill a data field yet: the front of the next data
     // field.
     octets: Vec<u8>,
@@ -104,8 +99,7 @@ impl<'d> TmForm<'d> {
     ) -> TmForm<'d>
         requires spacecraft { spacecraft ≤ 1023 }
         // All octets of the form of these packets are still to come.
-        ensures left { IsLeft result.progress (form_of shape.now spacecraft delivered.now.lists) }
-        ensures lists { result.progress.lists ≡ delivered.now.lists }
+        ensures left { result.left ≡ form_of shape.now spacecraft delivered.now.lists }
 
         // Read as a recording, the form delivers these packets again.
         ensures delivers { tm_lists shape.now spacecraft
@@ -114,9 +108,8 @@ impl<'d> TmForm<'d> {
         // No memory is held.
         ensures memory { result.octets_room ≡ 0 }
     {
-        // For the proof alone, at no cost: what holds of every `TmShape` and of every `Delivered`.
-        has_format(shape);
-        has_packets(delivered);
+        // For the proof alone, at no cost: the range of the length of a frame.
+        let _ = shape.len();
         TmForm {
             shape: *shape,
             delivered,
@@ -126,7 +119,7 @@ impl<'d> TmForm<'d> {
                 master: 0,
                 counter: 0,
             },
-            taken: 0,
+            packets: delivered.list(0),
             octets: Vec::new(alloc),
             start: 0,
         }
@@ -144,126 +137,84 @@ impl<'d> TmForm<'d> {
         ensures room { OnOk result (vec_len form.new + piece_room ≤ vec_capacity form.new) }
 
         // Nothing is added, and no memory is given back. Where both had room, no memory is refused.
-        ensures progress { self.new.progress ≡ self.old.progress }
+        ensures left { self.new.left ≡ self.old.left }
         ensures form { form.new.items ≡ form.old.items }
         ensures keeps { self.old.octets_room ≤ self.new.octets_room }
         ensures capacity { vec_capacity form.old ≤ vec_capacity form.new }
         ensures full { OnErr result (LacksRoom self.old form.old) }
     {
-        self.octets.reserve(OCTETS - self.octets.len())?;
-        form.reserve(PIECE)
+        reserve_piece(&mut self.octets, form)
     }
 
-    /// Adds the next piece to the end of `form`, and answers whether there was one. `false` means
-    /// that the whole normal form was made before this call. A piece may have no octets, but the
-    /// number of pieces is finite.
+    /// Adds the next piece to the end of `form`, and answers whether there was one. A piece has an
+    /// octet at least. `false` means that the whole normal form was made before this call, and
+    /// `form` is as it was.
     ///
-    /// Memory is refused only where there are packets, and only where it wasn't reserved with
+    /// Memory is refused only where a piece is left, and only where it wasn't reserved with
     /// [`reserve`](TmForm::reserve). The piece is then still to come, and the octets of `form` are
     /// as they were.
     pub fn next(&mut self, form: &mut Vec<u8>) -> Result<bool, AllocError>
         // The piece is the front of the octets that were still to come, and the octets after it are
-        // still to come. Without a piece the whole normal form was made.
-        ensures piece { OnOk result
-            (AddsPiece self.old.progress form.old.items form.new.items self.new.progress) }
-        ensures all { IfOk result (λ more. more ≡ false → IsAllMade self.old.progress) }
-        ensures none { IfOk result (λ more. more ≡ false → form.new.items ≡ form.old.items) }
+        // still to come. `false` means that no octet was still to come.
+        ensures piece { IfOk result (λ some. IsTrue some
+            → AddsPiece self.old.left form.old.items self.new.left form.new.items) }
+        ensures end { IfOk result (λ some. IsFalse some
+            → (self.old.left ≡ []) × (self.new.left ≡ []) × (form.new.items ≡ form.old.items)) }
 
-        // Each piece takes a packet or fills a virtual channel up, so there is a last piece. Pieces
-        // come only where there are packets. The packets themselves stay the same.
-        ensures fewer { IfOk result (λ more. IsTrue more
-            → HasFewer self.old.progress self.new.progress) }
-        ensures some { IfOk result (λ more. IsTrue more → IsOfPackets self.old.progress) }
-        ensures lists { self.new.progress.lists ≡ self.old.progress.lists }
-
-        // Where memory is refused, which doesn't happen where it was reserved, the same octets are
-        // still to come, and nothing was added.
+        // Where memory is refused, which doesn't happen where it was reserved, a piece is still to
+        // come, the same octets are still to come, and nothing was added.
         ensures full { OnErr result (LacksRoom self.old form.old) }
-        ensures left { OnErr result (KeepsLeft self.old.progress self.new.progress) }
-        ensures unchanged { OnErr result (form.new.items ≡ form.old.items) }
-        ensures packets { OnErr result (IsOfPackets self.old.progress) }
+        ensures pieces { OnErr result (self.old.left ≢ []) }
+        ensures unchanged { OnErr result
+            ((self.new.left ≡ self.old.left) × (form.new.items ≡ form.old.items)) }
 
         // No memory is given back.
         ensures keeps { self.old.octets_room ≤ self.new.octets_room }
         ensures capacity { vec_capacity form.old ≤ vec_capacity form.new }
     {
-        if !self.find_channel() {
-            return Ok(false);
-        }
-        self.reserve(form)?;
-        self.add_next(form)?;
-        Ok(true)
-    }
-
-    // Finds the first virtual channel, from this one on, that has more: packets, or octets that are
-    // to be filled up. Answers whether there is one.
-    fn find_channel(&mut self) -> bool
-        // Where no virtual channel is left, the whole form was made. The octets that were still to
-        // come still are.
-        ensures more { IsTrue result → HasMore self.new.progress }
-        ensures left { KeepsLeft self.old.progress self.new.progress }
-        ensures all { result ≡ false → IsAllMade self.old.progress }
-
-        // No more packets may still be taken than before, the packets themselves stay the same, and
-        // no memory is given back.
-        ensures no_more { HasNoMore self.old.progress self.new.progress }
-        ensures lists { self.new.progress.lists ≡ self.old.progress.lists }
-        ensures keeps { self.old.octets_room ≤ self.new.octets_room }
-    {
-        while self.heading.vc < 8 {
-            let packets = self.delivered.list(u16::from(self.heading.vc)).len();
-            if self.taken < packets || !self.octets.is_empty() {
-                return true;
+        loop {
+            let (shape, heading, start) = (self.shape, self.heading, self.start);
+            if let Some((packet, later)) = self.packets.split_first() {
+                reserve_piece(&mut self.octets, form)?;
+                let packet = packet.as_slice();
+                let frames = add_packet(form, &mut self.octets, &shape, heading, start, packet)?;
+                self.packets = later;
+                self.heading = heading.after(frames);
+                if frames > 0 {
+                    self.start = self.octets.len() as u16;
+                    return Ok(true);
+                }
+            } else if !self.octets.is_empty() {
+                reserve_piece(&mut self.octets, form)?;
+                let frames = add_filling(form, &mut self.octets, &shape, heading, start)?;
+                self.heading = heading.after(frames);
+                return Ok(true);
+            } else if heading.vc < 7 {
+                self.heading.vc += 1;
+                self.heading.counter = 0;
+                self.packets = self.delivered.list(u16::from(self.heading.vc));
+                self.start = 0;
+            } else {
+                return Ok(false);
             }
-            self.heading.vc += 1;
-            self.heading.counter = 0;
-            self.taken = 0;
-        }
-        false
-    }
-
-    // Takes the next packet, or fills the virtual channel up.
-    fn add_next(&mut self, form: &mut Vec<u8>) -> Result<(), AllocError>
-        requires more { HasMore self.old.progress }
-        // The front of the octets that were still to come is added, and fewer packets may still be
-        // taken than before. The packets themselves stay the same.
-        ensures piece { OnOk result
-            (AddsPiece self.old.progress form.old.items form.new.items self.new.progress) }
-        ensures fewer { OnOk result (HasFewer self.old.progress self.new.progress) }
-        ensures lists { self.new.progress.lists ≡ self.old.progress.lists }
-
-        // Memory is refused only where it wasn't reserved, and none is given back.
-        ensures full { OnErr result (LacksRoom self.old form.old) }
-        ensures keeps { self.old.octets_room ≤ self.new.octets_room }
-        ensures capacity { vec_capacity form.old ≤ vec_capacity form.new }
-    {
-        let (shape, heading, start) = (self.shape, self.heading, self.start);
-        let taken = self.taken;
-        let packets = self.delivered.list(u16::from(heading.vc));
-        let octets = &mut self.octets;
-        if taken < packets.len() {
-            let packet = packets[taken].as_slice();
-            let frames = add_packet(form, octets, &shape, heading, start, packet)?;
-            self.note_piece(frames, taken + 1);
-            return Ok(());
-        }
-        let frames = add_filling(form, octets, &shape, heading, start)?;
-        self.note_piece(frames, packets.len() + 1);
-        Ok(())
-    }
-
-    // Notes that this number of frames was added, and that this number of packets of the virtual
-    // channel is taken. Where frames were added, the next packet starts after the kept octets.
-    fn note_piece(&mut self, frames: usize, taken: usize)
-        ensures progress { self.new.progress ≡ progress_after self.old.progress frames taken }
-        ensures keeps { self.new.octets_room ≡ self.old.octets_room }
-    {
-        self.heading = self.heading.after(frames);
-        self.taken = taken;
-        if frames > 0 {
-            self.start = self.octets.len() as u16;
         }
     }
+}
+
+// Reserves memory for the next piece: for the octets that are kept, and for frames.
+fn reserve_piece(octets: &mut Vec<u8>, form: &mut Vec<u8>) -> Result<(), AllocError>
+    requires few { vec_len octets.old ≤ octets_room }
+    ensures ready { OnOk result (octets_room ≤ vec_capacity octets.new) }
+    ensures room { OnOk result (vec_len form.new + piece_room ≤ vec_capacity form.new) }
+    ensures octets { octets.new.items ≡ octets.old.items }
+    ensures form { form.new.items ≡ form.old.items }
+    ensures keeps { vec_capacity octets.old ≤ vec_capacity octets.new }
+    ensures capacity { vec_capacity form.old ≤ vec_capacity form.new }
+    ensures full { OnErr result (octets_room ≤ vec_capacity octets.old
+        → vec_capacity form.old < vec_len form.old + piece_room) }
+{
+    octets.reserve(OCTETS - octets.len())?;
+    form.reserve(PIECE)
 }
 
 // Adds the frames that the kept octets and then a packet fill. Keeps the octets beyond these
@@ -281,6 +232,7 @@ fn add_packet(
     requires vc { heading.vc ≤ 7 }
     requires start { start < field_room_of shape.now }
     requires few { length octets.old.items < field_room_of shape.now }
+    requires short { length packet.now ≤ longest_packet }
     // The octets are divided into the data fields of frames, and the octets beyond these are kept.
     ensures frames { OnOk result (form.new.items ≡ form.old.items
         ++ frames_of shape.now heading (Some start) (octets.old.items ++ packet.now)) }
@@ -291,8 +243,8 @@ fn add_packet(
     ensures few { length octets.new.items < field_room_of shape.now }
 
     // Memory is refused only where it wasn't reserved, and none is given back.
-    ensures full { OnErr result (octets_room ≤ vec_capacity octets.old → vec_capacity form.old
-        < vec_len form.old + frames_len shape.now (octets.old.items ++ packet.now)) }
+    ensures full { OnErr result (octets_room ≤ vec_capacity octets.old
+        → vec_capacity form.old < vec_len form.old + piece_room) }
     ensures keeps { vec_capacity octets.old ≤ vec_capacity octets.new }
     ensures capacity { vec_capacity form.old ≤ vec_capacity form.new }
 {
@@ -346,8 +298,8 @@ fn add_filling(
     ensures few { length octets.new.items < field_room_of shape.now }
 
     // Memory is refused only where it wasn't reserved, and none is given back.
-    ensures full { OnErr result (octets_room ≤ vec_capacity octets.old → vec_capacity form.old
-        < vec_len form.old + frames_len shape.now (filled_up shape.now octets.old.items)) }
+    ensures full { OnErr result (octets_room ≤ vec_capacity octets.old
+        → vec_capacity form.old < vec_len form.old + piece_room) }
     ensures keeps { vec_capacity octets.old ≤ vec_capacity octets.new }
     ensures capacity { vec_capacity form.old ≤ vec_capacity form.new }
 {
@@ -441,22 +393,4 @@ fn push_fields(
         left = later;
     }
     Ok(())
-}
-
-// The format of a `TmShape` has a length of 32 to 2048 octets. The length is read for the proof
-// alone, and dropped.
-#[inline(always)]
-fn has_format(shape: &TmShape)
-    ensures { IsFormat shape.now }
-{
-    let _ = shape.len();
-}
-
-// The packets of a `Delivered` on channels 0 to 7 are packets that aren't idle. One list is lent
-// for the proof alone, and dropped.
-#[inline(always)]
-fn has_packets(delivered: &Delivered)
-    ensures { AreDeliverable (take 8 delivered.now.lists) }
-{
-    let _ = delivered.list(0);
 }

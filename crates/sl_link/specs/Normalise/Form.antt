@@ -1,12 +1,12 @@
 -- The packets of a recording that are stored, and their normal form, which is made and written piece by piece, whatever
 -- kind its frames are.
-use Rattle.std.specs.Prelude.{◌≡◌, ◌<◌, ℕ, List, [], Option, take, ◌++◌}
+use Rattle.std.specs.Prelude.{◌≡◌, ℕ, ◌<◌, List, [], Option, take}
 use Rattle.std.specs.List.{slice_index_or}
 use Rattle.sl_link.specs.declared.link.counted.Counted.{Counted}
 use Rattle.sl_link.specs.declared.link.fault.LinkFault.{LinkFault}
 use Rattle.sl_link.specs.declared.link.fault.LinkFault.TheVariants.{Memory}
 use Rattle.sl_link.specs.Io.Streams.{ReadsAll}
-use Rattle.sl_link.specs.Kind.Delivery.{AreDelivered, AreStored, Kind, counts_in, recorded_packets}
+use Rattle.sl_link.specs.Kind.Delivery.{AreDelivered, AreStored, Kind, counts_in, packets_of}
 use Rattle.sl_link.specs.Link.Totals.{Counts}
 use Rattle.sl_link.specs.Tally.{listing_counts}
 
@@ -14,7 +14,7 @@ use Rattle.sl_link.specs.Tally.{listing_counts}
 
 -- the normal form of a recording's packets
 abbrev pub form_text : Kind → (List (List (List ℕ)) → List ℕ) → List ℕ → List ℕ
-form_text k form_of recording = form_of (recorded_packets k recording)
+form_text k form_of recording = form_of (packets_of k recording)
 
 -- the lists of the channels, of all that are stored
 abbrev pub listed : Kind → List (List (List ℕ)) → List (List (List ℕ))
@@ -36,27 +36,6 @@ pub record StoresAll {R : Type 0} (remaining : R → Option (List ℕ)) (reader 
 -- memory was refused, where `at_memory` holds
 abbrev pub IsRefused : Type 0 → LinkFault → Type 0
 IsRefused at_memory fault = (fault ≡ Memory) × at_memory
-
--- ---- a form that is made; `left` relates a form to the octets that are still to come
-
-module _ {F : Type 0} (left : F → List ℕ → Type 0) where
-  -- the next piece went from the front of what was left to the end of a text
-  pub record MovesPiece (old : F) (text : List ℕ) (new : F) (text' : List ℕ) : Type 0 where
-    pub piece : List ℕ
-    pub added : text' ≡ text ++ piece
-    pub remainder : (octets : List ℕ) → left old octets → (more : List ℕ) × ((octets ≡ piece ++ more) × left new more)
-
-  -- nothing is left
-  abbrev pub IsAllMade : F → Type 0
-  IsAllMade form = (octets : List ℕ) → left form octets → octets ≡ []
-
-  -- what was left still is
-  abbrev pub KeepsLeft : F → F → Type 0
-  KeepsLeft old new = (octets : List ℕ) → left old octets → left new octets
-
-  -- fewer pieces follow
-  abbrev pub IsFewer : (F → ℕ) → F → F → Type 0
-  IsFewer most old new = (octets : List ℕ) → left old octets → most new < most old
 
 -- ---- room
 

@@ -1,5 +1,5 @@
 //! A normal form that is written piece by piece.
-ghost use Rattle.std.specs.Prelude.{◌≡◌, ◌≤◌, [], ℕ, List, IfErr, OnOk, vec_len};
+ghost use Rattle.std.specs.Prelude.{◌≡◌, ◌≢◌, ◌≤◌, [], IfErr, OnOk, vec_len};
 ghost use Rattle.std.specs.Vec.{vec_capacity};
 ghost use Rattle.sl_link.specs.Io.Streams.{AddsText, StopsWriting, WritesText};
 ghost use Rattle.sl_link.specs.Pass.{chunk_size};
@@ -14,55 +14,42 @@ use crate::pass::CHUNK_SIZE;
 use std::alloc::Global;
 use std::io::Write;
 
-/// Room for the octets that aren't written yet, 0x10000 at most, and for a piece of either kind,
-/// 0x30000 at most.
+/// Octets enough for those that aren't written yet, 0x10000 at most, and a piece of either kind, 0x30000 at most.
 const FORM_SIZE: usize = 0x40000;
 
 /// A normal form that is made piece by piece, so that it need not be held whole.
 pub trait Form {
-    ghost use Rattle.std.specs.Prelude.{◌≡◌, ◌+◌, ◌≤◌, ◌<◌, ℕ, List, IfErr, IfOk, OnOk, OnErr, IsTrue, IsFalse, vec_len};
+    ghost use Rattle.std.specs.Prelude.{◌≡◌, ◌≢◌, ◌+◌, ◌≤◌, ◌<◌, ℕ, List, [], IfErr, IfOk, OnOk, OnErr, IsTrue, IsFalse, vec_len};
     ghost use Rattle.std.specs.Vec.{vec_capacity};
-    ghost use Rattle.sl_link.specs.Normalise.Form.{MovesPiece, IsAllMade, IsFewer, KeepsLeft, piece_size};
+    ghost use Rattle.sl_tmflow.specs.Form.{AddsPiece};
+    ghost use Rattle.sl_link.specs.Normalise.Form.{piece_size};
     ghost use Rattle.sl_link.specs.declared.link.fault.LinkFault.{LinkFault};
 
-    /// These octets are still to come.
-    ghost left: { Self → List ℕ → Type 0 };
-
-    /// The form has at least one packet.
-    ghost packets: { Self → Type 0 };
+    /// The octets that are still to come.
+    ghost left: { Self → List ℕ };
 
     /// The form has taken the memory that it wants for itself.
     ghost ready: { Self → Type 0 };
 
-    /// At most this number of pieces follows.
-    ghost most: { Self → ℕ };
-
-    /// Adds the next piece to a text, and answers whether there was one. Memory is refused only to
-    /// a form of packets: to one that isn't ready, or whose text has no room for a piece.
+    /// Adds the next piece to a text, and answers whether there was one. Memory is refused only
+    /// where a piece is left: to a form that isn't ready, or whose text has no room for a piece.
     fn next(&mut self, text: &mut Vec<u8>) -> Result<bool, LinkFault>
-        ensures piece { OnOk result
-            (MovesPiece left self.old text.old.items self.new text.new.items) }
-        ensures fewer { IfOk result (λ more. IsTrue more
-            → IsFewer left most self.old self.new) }
-        ensures all { IfOk result (λ more. IsFalse more → IsAllMade left self.old) }
-        ensures none { IfOk result (λ more. IsFalse more
-            → text.new.items ≡ text.old.items) }
-        ensures some { IfOk result (λ more. IsTrue more → (octets : List ℕ)
-            → left self.old octets → packets self.old) }
-        ensures packets { OnErr result ((octets : List ℕ)
-            → left self.old octets → packets self.old) }
+        ensures piece { IfOk result (λ some. IsTrue some
+            → AddsPiece (left self.old) text.old.items (left self.new) text.new.items) }
+        ensures end { IfOk result (λ some. IsFalse some
+            → (left self.old ≡ []) × (text.new.items ≡ text.old.items)) }
+        ensures pieces { OnErr result (left self.old ≢ []) }
         ensures fault { IfErr result (λ fault. fault ≡ LinkFault.Memory) }
         ensures full { OnErr result (ready self.old
             → vec_capacity text.old < vec_len text.old + piece_size) }
         ensures keeps { ready self.old → ready self.new }
         ensures capacity { vec_capacity text.old ≤ vec_capacity text.new };
 
-    /// Takes the memory that the form wants for itself. The text has room for a piece, and keeps
-    /// its octets.
+    /// Takes the memory that the form wants for itself. The text has room for a piece, and keeps its octets.
     fn reserve(&mut self, text: &mut Vec<u8>) -> Result<(), LinkFault>
         requires room { vec_len text.old + piece_size ≤ vec_capacity text.old }
         ensures ready { OnOk result (ready self.new) }
-        ensures left { OnOk result (KeepsLeft left self.old self.new) }
+        ensures left { OnOk result (left self.new ≡ left self.old) }
         ensures text { OnOk result (text.new.items ≡ text.old.items) }
         ensures capacity { vec_capacity text.old ≤ vec_capacity text.new }
         ensures fault { IfErr result (λ fault. fault ≡ LinkFault.Memory) };
@@ -74,13 +61,11 @@ pub fn write_form<F: Form, W: Write>(
     form: &mut F,
     writer: &mut Counted<W>,
 ) -> Result<(), LinkFault>
-    requires left { (octets : List ℕ) × F.left form.old octets }
-    ensures written { OnOk result ((octets : List ℕ) → F.left form.old octets
-        → WritesText W.contents writer.old writer.new octets) }
-    // Nothing is written where memory was refused, and it is refused only where there are packets.
-    ensures fault { IfErr result (λ fault. (octets : List ℕ) → F.left form.old octets
-        → StopsWriting W.contents writer.old writer.new octets
-        ((writer.new ≡ writer.old) × F.packets form.old) fault) }
+    ensures written { OnOk result
+        (WritesText W.contents writer.old writer.new (F.left form.old)) }
+    // Nothing is written where memory was refused, and it is refused only where there are pieces.
+    ensures fault { IfErr result (StopsWriting W.contents writer.old writer.new (F.left form.old)
+        ((writer.new ≡ writer.old) × (F.left form.old ≢ []))) }
 {
     let mut text = Vec::new(alloc);
     if !form.next(&mut text)? {
@@ -97,7 +82,7 @@ pub fn write_form<F: Form, W: Write>(
     write_text(writer, text.as_slice())
 }
 
-// Writes the octets that wait, if they are more than a chunk.
+// Writes octets that wait, where they are more than a chunk.
 fn write_chunk<W: Write>(writer: &mut Counted<W>, waiting: &mut Vec<u8>) -> Result<(), LinkFault>
     ensures kept { OnOk result
         (AddsText W.contents writer.old writer.new waiting.old.items waiting.new.items []) }

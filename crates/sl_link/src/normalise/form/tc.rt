@@ -4,15 +4,11 @@ use crate::normalise::form::Form;
 use sl_tcflow::TcForm;
 
 impl<'d> Form for TcForm<'d> {
-    ghost use Rattle.std.specs.Prelude.{⊤, ◌≡◌, ◌≢◌, [], length};
+    ghost use Rattle.std.specs.Prelude.{⊤};
 
-    ghost left = { λ form octets. form ≡ octets };
-
-    ghost packets = { λ form. form ≢ [] };
+    ghost left = { λ form. form };
 
     ghost ready = { λ form. ⊤ };
-
-    ghost most = { λ form. length form };
 
     fn next(&mut self, text: &mut Vec<u8>) -> Result<bool, LinkFault> {
         match TcForm::next(self, text) {

@@ -4,15 +4,11 @@ use crate::normalise::form::Form;
 use sl_tmflow::TmForm;
 
 impl<'d> Form for TmForm<'d> {
-    ghost use Rattle.sl_tmflow.specs.Form.{HasPackets, IsReserved, IsLeft, packets_left};
+    ghost use Rattle.sl_tmflow.specs.Form.{IsReserved};
 
-    ghost left = { λ form octets. IsLeft form.progress octets };
-
-    ghost packets = { λ form. HasPackets form.progress.lists };
+    ghost left = { λ form. form.left };
 
     ghost ready = { λ form. IsReserved form };
-
-    ghost most = { λ form. packets_left form.progress };
 
     fn next(&mut self, text: &mut Vec<u8>) -> Result<bool, LinkFault> {
         match TmForm::next(self, text) {

@@ -1,9 +1,9 @@
-use Rattle.std.proofs.Common.{◌<◌, ◌-◌, ◌/◌, ◌%◌, ◌++◌, ◌∙◌, None, Some, arith, sym, ap, length, length-append, append-nil}
+use Rattle.std.proofs.Common.{◌<◌, ◌≤◌, ◌-◌, ◌/◌, ◌%◌, ◌++◌, ◌∙◌, None, Some, arith, sym, ap, length, length-append, append-nil}
 use Rattle.std.proofs.lemmas.List.{take-append-drop, take_rest}
 use Rattle.std.proofs.lemmas.Result.{err_from_is_err_and}
 use Rattle.sl_tmframe.specs.PacketFrame.{field_room_of}
 use Rattle.sl_tmflow.specs.Form.{field_frames, frames_len, frames_of}
-use Rattle.sl_tmflow.proofs.lemmas.Form.Frames.{FillsUp, none_filled, few_beyond, fields_of_both, frames_len_of_first, frames_len_of_both, beyond_both, frames_of_both}
+use Rattle.sl_tmflow.proofs.lemmas.Form.Frames.{FillsUp, none_filled, few_beyond, fields_of_both, frames_len_of_first, frames_len_of_both, beyond_both, frames_of_both, small_piece}
 use Rattle.sl_tmflow.proofs.form.add_packet.Goals.{After-split_at, Then-packet-wanted}
 use Rattle.sl_tmflow.proofs.form.add_packet.Goals as goal
 
@@ -21,6 +21,12 @@ fills_up c =
       whole = omega (arith, length-append c.args.octets.now.items c.split_at.result.0.now, c.split_at.ensures.front_len, room, c.len.ensures, c.requires.few);
     }
 
+-- all frames fit into the room for a piece
+small : (c : After-split_at) → frames_len c.args.shape.now (c.args.octets.now.items ++ c.args.packet.now) ≤ 90112
+small c =
+    let value = c.room.ensures.value in
+    small_piece c.args.shape.now c.args.octets.now.items c.args.packet.now (omega (arith, value, c.room.ensures.least)) (omega (arith, value, c.room.ensures.most)) c.requires.few c.requires.short
+
 pub returns-then-packet-wanted-clause-frames : goal.returns-then-packet-wanted-clause-frames
 returns-then-packet-wanted-clause-frames c =
     let all = c.args.octets.now.items ++ c.args.packet.now in
@@ -37,14 +43,14 @@ returns-in_err-pushed-clause-full c =
     let s = fills_up (goal.at.returns-in_err-pushed-clause-full c).After-split_at in
     let first = ap (frames_len c.args.shape.now) (c.as_slice.ensures.value ∙ c.in_ok-extend_from_slice-2.ensures.items) in
     let out = err_from_is_err_and c.from_residual-in_err-pushed.result c.from_residual-in_err-pushed.ensures.1 in
-    rw (out.1) (λ _. omega (arith, c.in_err-pushed.ensures.full, first, frames_len_of_first s, frames_len_of_both s))
+    rw (out.1) (λ _. omega (arith, c.in_err-pushed.ensures.full, first, frames_len_of_first s, frames_len_of_both s, small (goal.at.returns-in_err-pushed-clause-full c).After-split_at))
 
 pub returns-in_err-push_fields-clause-full : goal.returns-in_err-push_fields-clause-full
 returns-in_err-push_fields-clause-full c =
     let s = fills_up (goal.at.returns-in_err-push_fields-clause-full c).After-split_at in
     let first = ap (frames_len c.args.shape.now) (c.as_slice.ensures.value ∙ c.in_ok-extend_from_slice-2.ensures.items) in
     let out = err_from_is_err_and c.from_residual-in_err-push_fields.result c.from_residual-in_err-push_fields.ensures.1 in
-    rw (out.1) (λ _. omega (arith, c.in_err-push_fields.ensures.full, c.in_ok-pushed.ensures.size, c.push_fields-pushed.ensures.capacity, first, frames_len_of_first s, frames_len_of_both s))
+    rw (out.1) (λ _. omega (arith, c.in_err-push_fields.ensures.full, c.in_ok-pushed.ensures.size, c.push_fields-pushed.ensures.capacity, first, frames_len_of_first s, frames_len_of_both s, small (goal.at.returns-in_err-push_fields-clause-full c).After-split_at))
 
 pub returns-clause-frames : goal.returns-clause-frames
 returns-clause-frames c =

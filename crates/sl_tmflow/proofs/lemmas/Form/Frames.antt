@@ -115,5 +115,8 @@ small_piece format octets packet wide short few most =
     let size = length-append octets packet in
     piece_fits (fields_in format all) (field_room_of format) format.len 67584 wide (omega (arith, wide, last)) (omega (arith, parts, size, few, short, most)) (omega arith)
 
-pub short_filling : (room : ℕ) (octets : List ℕ) → 24 ≤ room → room ≤ 2042 → length (concat (filling room (length octets))) ≤ 65542
-short_filling room octets wide short = grind (arith, filling_is, fill_inside)
+-- the same of the octets that an idle packet fills up
+pub small_filling : (format : TmFormat) (octets : List ℕ) → 24 ≤ field_room_of format → field_room_of format ≤ 2042 → length octets < field_room_of format → frames_len format (filled_up format octets) ≤ 90112
+small_filling format octets wide short few =
+    let idle : length (concat (filling (field_room_of format) (length octets))) ≤ 65542 = grind (arith, filling_is, fill_inside) in
+    small_piece format octets (concat (filling (field_room_of format) (length octets))) wide short few idle

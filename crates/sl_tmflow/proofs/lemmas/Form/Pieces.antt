@@ -1,76 +1,37 @@
--- The pieces of a normal form: the frames that a packet completes.
-use Rattle.std.proofs.Common.{◌≡◌, ℕ, zero, suc, ◌+◌, ◌-◌, ◌*◌, ◌/◌, ◌%◌, ◌<◌, ◌≤◌, ◌==◌, if◌then◌else◌, List, [], ◌∷◌, ◌++◌, length, take, drop, map, Option, Some, None, refl, sym, ◌∙◌, ap, arith, inl, inr, length-append, append_assoc, length-take-le, mul-le-mul_right}
+-- The frames of a virtual channel, packet by packet: those that a packet completes are the next ones.
+use Rattle.std.proofs.Common.{◌≡◌, ℕ, zero, suc, ◌+◌, ◌-◌, ◌*◌, ◌/◌, ◌%◌, ◌<◌, ◌≤◌, ◌==◌, if◌then◌else◌, List, [], ◌∷◌, ◌++◌, length, take, drop, map, Option, Some, None, refl, sym, ◌∙◌, ap, ap₂, arith, inl, inr, length-append, append_assoc, length-take-le, mul-le-mul_right}
 use Rattle.std.specs.List.{concat, range_with_len}
 use Rattle.std.proofs.lemmas.Bool.Decides.{eqb_tells}
 use Rattle.std.proofs.lemmas.List.{length-drop, take-append-drop, take-append-le}
 use Rattle.std.proofs.lemmas.Nat.{div-add-mod', mod_below}
-use Rattle.std.proofs.Math.Nat.{add-mul, suc-mul, zero-mul, one-mul, zero-div}
+use Rattle.std.proofs.Math.Nat.{add-mul, suc-mul, one-mul, zero-div}
 use Rattle.std.proofs.Math.Seq.{drop-append_seam}
 use Rattle.sl_tmframe.specs.PacketFrame.{field_room_of, packet_frame}
 use Rattle.sl_tmframe.specs.TmFrame.{TmFormat}
-use Rattle.sl_tmflow.specs.Form.{IsPending, start_in, field_frames, FormProgress, beyond_fields, fields_in, frames_of}
+use Rattle.sl_tmflow.specs.Form.{field_frames, heading_after}
 use Rattle.sl_tmflow.specs.declared.form.Heading.{Heading}
-use Rattle.sl_tmflow.specs.NormalForm.{first_of, data_field_of, channel_frame, channel_frames, filling}
+use Rattle.sl_tmflow.specs.NormalForm.{first_of, data_field_of, channel_frame, channel_frames}
 use Rattle.sl_tmflow.specs.PacketStart.{packet_offsets}
-use Rattle.sl_tmflow.proofs.lemmas.Form.FieldStart.{lies_here, lies_elsewhere, no_later, skip_packet}
+use Rattle.sl_tmflow.proofs.lemmas.Form.FieldStart.{found_in, lies_here, lies_elsewhere, no_later, skip_packet}
 use Rattle.sl_tmflow.proofs.lemmas.Form.Fill.{no_filling}
 
--- ---- the steps that make a normal form
+-- ---- frames
 
--- the heading of the next frame
-abbrev pub heading_of : FormProgress → Heading
-heading_of s = record { spacecraft = s.spacecraft; vc = s.vc; master = s.master; counter = s.counter }
+-- the heading of a virtual channel's frame with this number, after `before` frames of other ones
+abbrev pub numbered : ℕ → ℕ → ℕ → ℕ → Heading
+numbered spacecraft vc before number = record { spacecraft = spacecraft; vc = vc; master = (before + number) % 256; counter = number % 256 }
 
--- the idle packet that fills up the octets that are left of a virtual channel, or nothing
-abbrev pub filling_of : FormProgress → List ℕ
-filling_of s = concat (filling (field_room_of s.format) (length s.octets))
-
--- the frames that a packet completes
-abbrev pub piece_of : FormProgress → List ℕ → List ℕ
-piece_of s packet = frames_of s.format (heading_of s) (Some s.start) (s.octets ++ packet)
-
--- the progress after a packet, when `taken` packets were taken
-abbrev pub after_packet : FormProgress → List ℕ → ℕ → FormProgress
-after_packet s packet taken =
-    let frames : ℕ = fields_in s.format (s.octets ++ packet) in
-    let octets : List ℕ = beyond_fields s.format (s.octets ++ packet) in
-    record s {
-      taken = taken;
-      master = (s.master + frames) % 256;
-      counter = (s.counter + frames) % 256;
-      octets = octets;
-      start = if frames == 0 then s.start else length octets;
-    }
-
--- the progress at the front of the next virtual channel
-abbrev pub next_channel : FormProgress → FormProgress
-next_channel s = record s { vc = s.vc + 1; taken = 0; counter = 0 }
-
--- ---- counts and numbers
-
-same_frame : (format : TmFormat) (spacecraft vc mc mc' vcc vcc' : ℕ) (first first' : Option ℕ) (field field' : List ℕ) → mc ≡ mc' → vcc ≡ vcc' → first ≡ first' → field ≡ field'
-    → packet_frame format spacecraft vc mc vcc first field ≡ packet_frame format spacecraft vc mc' vcc' first' field'
-same_frame format spacecraft vc mc mc' vcc vcc' first first' field field' a b c d = rw (a, b, c, d) refl
-
-count_next : (count n : ℕ) → count ≡ n % 256 → (count + 1) % 256 ≡ (n + 1) % 256
-count_next count n is = omega (arith, is)
-
-pub count_later : (count n frames : ℕ) → count ≡ n % 256 → (count + frames) % 256 ≡ (n + frames) % 256
-count_later count n frames is = omega (arith, is)
+pub numbered_later : (spacecraft vc before number n : ℕ) → heading_after (numbered spacecraft vc before number) n ≡ numbered spacecraft vc before (number + n)
+numbered_later spacecraft vc before number n = grind arith
 
 -- a range of numbers in two parts
 pub two_ranges : (f : ℕ → List ℕ) (n from m : ℕ) → map f (range_with_len from (n + m)) ≡ map f (range_with_len from n) ++ map f (range_with_len (from + n) m)
-two_ranges f zero from m =
-    let none : 0 + m ≡ m = omega arith in
-    let same : from ≡ from + 0 = omega arith in
-    ap (λ n. map f (range_with_len from n)) none ∙ ap (λ k. map f (range_with_len k m)) same
+two_ranges f zero from m = grind arith
 two_ranges f (suc n) from m =
     let long : suc n + m ≡ suc (n + m) = omega arith in
     let same : from + 1 + n ≡ from + suc n = omega arith in
     ap (λ k. map f (range_with_len from k)) long
     ∙ ap (λ l. f from ∷ l) (two_ranges f n (from + 1) m ∙ ap (λ k. map f (range_with_len (from + 1) n) ++ map f (range_with_len k m)) same)
-
--- ---- frames
 
 module _ (format : TmFormat) (spacecraft vc before : ℕ) (packets : List (List ℕ)) where
   abbrev room : ℕ
@@ -78,9 +39,6 @@ module _ (format : TmFormat) (spacecraft vc before : ℕ) (packets : List (List 
 
   abbrev frame_at : ℕ → List ℕ
   frame_at = channel_frame format spacecraft vc before packets
-
-  abbrev heading_with : ℕ → ℕ → Heading
-  heading_with master counter = record { spacecraft = spacecraft; vc = vc; master = master; counter = counter }
 
   abbrev first_at : ℕ → Option ℕ
   first_at number = first_of room number (packet_offsets 0 packets [])
@@ -90,14 +48,13 @@ module _ (format : TmFormat) (spacecraft vc before : ℕ) (packets : List (List 
       → take room octets ≡ data_field_of room number (concat packets)
   field_is number made octets more parts size enough = grind (arith, drop-append_seam, take-append-le)
 
-  pub fields_are : (many number : ℕ) (first : Option ℕ) (master counter : ℕ) (made octets more : List ℕ)
+  pub fields_are : (many number : ℕ) (first : Option ℕ) (made octets more : List ℕ)
       → concat packets ≡ made ++ (octets ++ more) → length made ≡ number * room → many * room ≤ length octets
-      → master ≡ (before + number) % 256 → counter ≡ number % 256
       → (0 < many → first_at number ≡ first)
       → ((j : ℕ) → number < j → j < number + many → first_at j ≡ None)
-      → field_frames format many (heading_with master counter) first octets ≡ concat (map frame_at (range_with_len number many))
-  fields_are zero number first master counter made octets more parts size enough master_is counter_is here later = refl
-  fields_are (suc many) number first master counter made octets more parts size enough master_is counter_is here later =
+      → field_frames format many (numbered spacecraft vc before number) first octets ≡ concat (map frame_at (range_with_len number many))
+  fields_are zero number first made octets more parts size enough here later = refl
+  fields_are (suc many) number first made octets more parts size enough here later =
       let rooms = suc-mul many room in
       let one = add-mul number 1 room in
       let once = one-mul room in
@@ -105,22 +62,32 @@ module _ (format : TmFormat) (spacecraft vc before : ℕ) (packets : List (List 
       let front = length-take-le room octets fits in
       let halves : octets ++ more ≡ take room octets ++ (drop room octets ++ more) =
       ap (λ l. l ++ more) (sym (take-append-drop room octets)) ∙ append_assoc (take room octets) (drop room octets) more in
-      let step : before + number + 1 ≡ before + (number + 1) = omega arith in
-      ap (λ f. f ++ field_frames format many (heading_with ((master + 1) % 256) ((counter + 1) % 256)) None (drop room octets))
-      (same_frame format spacecraft vc _ _ _ _ _ _ _ _ master_is counter_is (sym (here (omega arith))) (field_is number made octets more parts size fits))
+      ap (λ f. f ++ field_frames format many (heading_after (numbered spacecraft vc before number) 1) None (drop room octets))
+      (ap₂ (packet_frame format spacecraft vc ((before + number) % 256) (number % 256)) (sym (here (omega arith))) (field_is number made octets more parts size fits))
+      ∙ ap (λ h. frame_at number ++ field_frames format many h None (drop room octets)) (numbered_later spacecraft vc before number 1)
       ∙ ap (λ l. frame_at number ++ l)
-      (fields_are many (number + 1) None ((master + 1) % 256) ((counter + 1) % 256) (made ++ take room octets) (drop room octets) more
+      (fields_are many (number + 1) None (made ++ take room octets) (drop room octets) more
       (parts ∙ ap (λ l. made ++ l) halves ∙ sym (append_assoc made (take room octets) (drop room octets ++ more)))
       (omega (arith, length-append made (take room octets), size, front, one, once, fits))
       (omega (arith, length-drop room octets, enough, rooms))
-      (count_next master (before + number) master_is ∙ ap (λ n. n % 256) step)
-      (count_next counter number counter_is)
       (λ some. later (number + 1) (omega arith) (omega (arith, some)))
       (λ j above below. later j (omega (arith, above)) (omega (arith, below))))
 
 -- ---- where packets start
 
-pub found_here : (room number offset : ℕ) (next : List ℕ) (more : List (List ℕ)) → offset < room → start_in room number (number * room + offset) (next ∷ more) ≡ Some (number * room + offset)
+-- Of a channel with these packets, `count` data fields were made. The packets `later` are still to
+-- be taken, and `octets` are the octets of the taken packets that don't fill a data field yet.
+pub record IsPending (room : ℕ) (packets : List (List ℕ)) (count start : ℕ) (octets : List ℕ) (later : List (List ℕ)) : Type 0 where
+  pub made : List ℕ
+  pub parts : concat packets ≡ made ++ (octets ++ concat later)
+  pub size : length made ≡ count * room
+  -- in each data field after the next one, the first packet start is one of the packets `later`, if
+  -- a packet starts there
+  pub after : (number : ℕ) → count < number → found_in room number 0 packets ≡ found_in room number (count * room + length octets) later
+  -- if there is a packet to be taken, `start` is the first packet start of the next data field
+  pub first : (packet : List ℕ) (more : List (List ℕ)) → later ≡ packet ∷ more → found_in room count 0 packets ≡ Some (count * room + start)
+
+pub found_here : (room number offset : ℕ) (next : List ℕ) (more : List (List ℕ)) → offset < room → found_in room number (number * room + offset) (next ∷ more) ≡ Some (number * room + offset)
 found_here room number offset next more inside = rw (lies_here room number offset inside) refl
 
 module _ (room : ℕ) (packets : List (List ℕ)) (count start : ℕ) (octets packet : List ℕ) (later : List (List ℕ)) (few : length octets < room) (p : IsPending room packets count start octets (packet ∷ later)) where
@@ -131,14 +98,14 @@ module _ (room : ℕ) (packets : List (List ℕ)) (count start : ℕ) (octets pa
   many = length all / room
 
   -- the packet doesn't start in a later data field
-  past : (number : ℕ) → count < number → start_in room number 0 packets ≡ start_in room number (count * room + length all) later
+  past : (number : ℕ) → count < number → found_in room number 0 packets ≡ found_in room number (count * room + length all) later
   past number above = grind (arith, length-append, skip_packet, lies_elsewhere)
 
   -- the octets of whole data fields, and the octets beyond them
   whole : many * room + length (drop (many * room) all) ≡ length all
   whole = let parts = div-add-mod' (length all) room in omega (arith, parts, length-drop (many * room) all)
 
-  beyond_few : length (drop (many * room) all) < room
+  pub beyond_few : length (drop (many * room) all) < room
   beyond_few = let parts = div-add-mod' (length all) room in let below = mod_below (length all) room (omega (arith, few)) in omega (arith, parts, below, length-drop (many * room) all)
 
   pub starts_here : first_of room count (packet_offsets 0 packets []) ≡ Some start
@@ -153,7 +120,7 @@ module _ (room : ℕ) (packets : List (List ℕ)) (count start : ℕ) (octets pa
       let once = one-mul room in
       let sum = add-mul count many room in
       let parts = whole in
-      let none : start_in room number 0 packets ≡ None = past number above ∙ no_later room number (count * room + length all) later (omega (arith, few)) (omega (arith, least, one, once, sum, parts)) in
+      let none : found_in room number 0 packets ≡ None = past number above ∙ no_later room number (count * room + length all) later (omega (arith, few)) (omega (arith, least, one, once, sum, parts)) in
       rw (none) refl
 
   pub pending_next : IsPending room packets (count + many) (if many == 0 then start else length (drop (many * room) all)) (drop (many * room) all) later
@@ -167,17 +134,13 @@ module _ (room : ℕ) (packets : List (List ℕ)) (count start : ℕ) (octets pa
         made = p.made ++ take (many * room) all;
         parts = p.parts ∙ ap (λ l. p.made ++ l) halves ∙ sym (append_assoc p.made (take (many * room) all) (drop (many * room) all ++ concat later));
         size = omega (arith, length-append p.made (take (many * room) all), p.size, sum, parts, length-take-le (many * room) all (omega arith));
-        within = elim (eqb_tells many 0) [
-          | inl (test, none) ↦ rw (test) (let z = ap (λ n. n * room) none in let o = zero-mul room in omega (arith, p.within, parts, z, o, length-append octets packet))
-          | inr (test, some) ↦ rw (test) (omega arith)
-        ];
-        after = λ number above. past number (omega (arith, above)) ∙ ap (λ n. start_in room number n later) at;
+        after = λ number above. past number (omega (arith, above)) ∙ ap (λ n. found_in room number n later) at;
         first = λ next more is. elim (eqb_tells many 0) [
           | inl (test, none) ↦
               let same : count + many ≡ count = omega (arith, none) in
               rw (test, same) (p.first packet later refl)
           | inr (test, some) ↦
-              rw (test) (past (count + many) (omega (arith, some)) ∙ ap (λ n. start_in room (count + many) n later) at ∙ ap (start_in room (count + many) ((count + many) * room + length (drop (many * room) all))) is
+              rw (test) (past (count + many) (omega (arith, some)) ∙ ap (λ n. found_in room (count + many) n later) at ∙ ap (found_in room (count + many) ((count + many) * room + length (drop (many * room) all))) is
               ∙ found_here room (count + many) (length (drop (many * room) all)) next more beyond_few)
         ];
       }

@@ -1,13 +1,13 @@
-use Rattle.std.proofs.Common.{ℕ, ◌≤◌, List}
+use Rattle.std.proofs.Common.{◌≤◌, ◌++◌, [], length}
 use Rattle.std.specs.Vec.{vec_len, vec_capacity}
+use Rattle.sl_link.specs.Io.Streams.{AddsText}
 use Rattle.sl_link.specs.Pass.{chunk_size}
-use Rattle.sl_link.proofs.lemmas.Normalise.Form.{IsWritingForm}
 use Rattle.sl_link.proofs.normalise.form.write_form.Given as goal
 
 abbrev pub invariant-loop-text : goal.invariant-loop-text
 invariant-loop-text g l =
-    ((octets : List ℕ) → g.F.Form.left l.fn.form octets → IsWritingForm g.F.Form.left g.W.Write.contents l.fn.writer l.writer l.form l.text.items octets)
+    AddsText g.W.Write.contents l.fn.writer l.writer [] (l.text.items ++ g.F.Form.left l.form) (g.F.Form.left l.fn.form)
     × (g.F.Form.ready l.form × ((0x40000 ≤ vec_capacity l.text) × (vec_len l.text ≤ chunk_size)))
 
 abbrev pub decreases-loop-text : goal.decreases-loop-text
-decreases-loop-text g l = g.F.Form.most l.form
+decreases-loop-text g l = length (g.F.Form.left l.form)

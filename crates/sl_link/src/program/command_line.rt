@@ -153,7 +153,7 @@ fn with_verb<'a>(
     verb: Command<'a>,
     kinds: &'a [&'a str],
 ) -> Result<Command<'a>, AllocError>
-    requires { (fields_of verb.entry).has_globals ≡ false }
+    requires { (fields_of verb).has_globals ≡ false }
     ensures { IfOk result (λ with. app_of with ≡ with_subcommand (app_of command.entry)
         (with_arguments (app_of verb.entry) kinds.entry).top) }
 {

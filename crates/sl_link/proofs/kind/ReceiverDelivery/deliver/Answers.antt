@@ -64,7 +64,7 @@ returns-clause-found g c =
     rw (
       c.vc.ensures.value,
       c.map.ensures.value ∙ e.map r seen h.processed,
-      c.ns_of.ensures,
+      c.content_ns.ensures,
       c.content.ensures.value,
       c.verdict.ensures ∙ e.verdict r seen h.processed,
       c.stray.ensures ∙ e.stray r seen h.processed,

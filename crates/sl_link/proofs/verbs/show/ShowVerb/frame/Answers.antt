@@ -1,4 +1,4 @@
-use Rattle.std.proofs.Common.{◌++◌, ◌∙◌, ap, decimal, refl}
+use Rattle.std.proofs.Common.{◌∙◌, refl}
 use Rattle.sl_link.proofs.lemmas.Io.Streams.{adds_both, adds_lines, stops_before}
 use Rattle.sl_link.proofs.lemmas.Kind.Delivery.{so_far_more}
 use Rattle.sl_link.proofs.lemmas.Link.Answers.{passed_up}

@@ -10,10 +10,10 @@ use Rattle.sl_link.proofs.lemmas.Kind.Delivery.{views_next}
 use Rattle.sl_link.proofs.verbs.show.shown.FarmsShown.show.Goals as goal
 
 pub returns-clause-line : goal.returns-clause-line
-returns-clause-line c = λ before start h at.
+returns-clause-line c = λ before start h offset.
     let p = c.args.managed.now in
     let read : c.read-read.result ≡ tc_frame (tc_format p) p.spacecraft c.args.frame.now = search rules in
-    line_after start _ (length (concat before)) at
+    line_after start _ (length (concat before)) offset
     (rw read at (c.tc_frame_line.ensures.line (reception_of p) (views_of (tc_format p) p.spacecraft before) h
     ∙ ap (λ (q : Parameters). c.args.lines.now ++ (tc_frame_text q.plain (farm_view p before) c.read-read.result ++ codes "\n")) c.managed.view_is))
 

@@ -119,10 +119,10 @@ pub struct TcFound {
     pub verdict: Verdict,
     /// Whether a segment is out of sequence.
     pub stray: bool,
-    /// How many octets the series has that is dropped, if one is.
-    pub dropped: Option<u32>,
     /// Whether a series is given up, because it is too long.
     pub long: bool,
+    /// How many octets the series has that is dropped, if one is.
+    pub dropped: Option<u32>,
     /// How many octets are left after the last packet of a service data unit.
     pub tail: u32,
 }

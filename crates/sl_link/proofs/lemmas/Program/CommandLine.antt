@@ -11,7 +11,7 @@ use Rattle.std.proofs.lemmas.Bool.{false_from_ne_true}
 use Rattle.std.proofs.lemmas.Slice.Eq.{bytes_eq-Decides}
 use Rattle.std.specs.Box.{box_value}
 use Rattle.clap.specs.ValueTests.{accepts}
-use Rattle.clap.specs.Words.{AddsArg, AddsInTurn, App, ReadsOne, Text, app_of, first_of, first_value, one_of, one_text, rows_of, rule_of, with_rule, BuildsTo, FailsBy, HasMatchesOf, IsParsed, Kinds, Row, fault_of, found_of, has_subcommand, is_simple_and_free, kind_of, subcommand_name_of, subcommand_rows, subcommand_rows_of}
+use Rattle.clap.specs.Words.{AddsArg, AddsInTurn, App, ReadsOne, Text, app_of, first_of, first_value, one_of, one_text, rows_of, rule_of, with_rule, BuildsTo, FailsBy, HasMatchesOf, IsParsed, Kinds, Row, fault_of, found_of, has_subcommand, is_simple_and_free, kind_of, subcommand_name_of, subcommand_rows, subcommand_rows_of, with_subcommand}
 use Rattle.clap.specs.declared.builder.arg.Arg.{Arg}
 use Rattle.clap.specs.declared.builder.command.Command.{Command}
 use Rattle.clap.specs.declared.builder.command.Command.TheViews.{out-Command as fields_of}
@@ -26,7 +26,7 @@ use Rattle.clap.specs.declared.parser.matches.ArgMatches.{ArgMatches}
 use Rattle.clap.specs.declared.parser.matches.ArgMatches.TheViews.{out-ArgMatches, out-SubCommand}
 use Rattle.clap.specs.declared.parser.matches.SubCommand.{SubCommand}
 use Rattle.clap.proofs.CallerLemmas.{subcommand_required}
-use Rattle.sl_link.specs.Program.CommandLine.{is_complete, is_set, number_in, number_read, AskFor, Asks, IsRefusal, IsSllink, refusals}
+use Rattle.sl_link.specs.Program.CommandLine.{with_arguments, is_complete, is_set, number_in, number_read, AskFor, Asks, IsRefusal, IsSllink, refusals}
 use Rattle.sl_link.specs.declared.program.command_line.Asked.{Asked}
 use Rattle.sl_link.proofs.lemmas.Program.Complete.{words_ask_something}
 use Rattle.sl_link.proofs.lemmas.Program.SameWalk.{same_fault, same_subcommand}
@@ -55,6 +55,11 @@ adds_rules old new (a ∷ args) simple adds =
     let step = adds.1 in
     let rest = adds_rules adds.0 new args parts.1 adds.2 in
     (rest.0 ∙ ap (λ (app : App). fold with_rule app (map rule_of args)) (step.shape local), rest.1 ∙ step.globals ∙ stays_local _ _ local)
+
+-- a command with one verb more, by what is known of the verb before it has arguments
+pub with_named_verb : (old : App) (kinds : Bor (List (Bor Text))) {with verb named : App} → verb ≡ named → with ≡ with_subcommand old (with_arguments verb kinds).top
+    → with ≡ with_subcommand old (with_arguments named kinds).top
+with_named_verb old kinds same is = is ∙ ap (λ (a : App). with_subcommand old (with_arguments a kinds).top) same
 
 -- ---- texts, numbers and flags
 

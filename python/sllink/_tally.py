@@ -3,7 +3,7 @@
 from array import array
 from collections import defaultdict
 from hashlib import blake2b
-from typing import Dict, List, Optional, Sequence, Set, Tuple
+from typing import Counter, Dict, List, Optional, Sequence, Set, Tuple
 
 from ._compare.difference import COUNTS, Difference, Key, Runs
 from ._compare.store import FIELDS, MOST_PACKETS, RECORD, Channel, Packets
@@ -124,6 +124,7 @@ class Lacks(Difference):
         self.each: Dict[Key, List[int]] = {}
         self.left = False
         self._channels: Set[Channel] = set()
+        self._lacks: Dict[Channel, Counter[int]] = {}     # by APID, where that is more than what is said of each
         for run in self.runs():
             side, key = "<>".index(run.side), key_of_run(run)
             its = self.only[side]
@@ -131,6 +132,10 @@ class Lacks(Difference):
             its.number += 1
             its.runs += [run] * (len(its.runs) < MOST_RUNS)
             self._add(key, side, run.packets)
+        for key, numbers in self.each.items():
+            if key[:2] in self._lacks:
+                numbers[2] = numbers[0] - self._lacks[key[:2]][key[2]]
+                self._channels |= {key[:2]} if numbers[2] else set()
         for its in self.only:
             its.runs.sort(key=key_of_run)
         self.same = not any(its.number for its in self.only)
@@ -147,6 +152,9 @@ class Lacks(Difference):
         for (apid, _), it in zip(FIELDS.iter_unpack(records), new):
             if not it:
                 self._add((*channel, apid), 2, 1)
+
+    def settle(self, channel: Channel, lacks: Counter[int]) -> None:
+        self._lacks[channel] = lacks
 
     def total(self, side: int) -> int:
         """How many packets only one of them has, the one of this side."""

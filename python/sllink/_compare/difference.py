@@ -2,17 +2,17 @@
 
 import collections
 from collections import deque
-from typing import Deque, Dict, Iterator, List, NamedTuple, OrderedDict, Sequence, Tuple
+from typing import Counter, Deque, Dict, Iterator, List, NamedTuple, OrderedDict, Sequence, Tuple
 
 from .._records import Run, run_line
-from .alignment import hunks
-from .store import FAR, FIELDS, RECORD, Channel, Packets
+from .alignment import Members, hunks
+from .store import FAR, FIELDS, RECORD, SIZE, Channel, Packets
 
 COUNTS = 16384                                            # of the packet sequence count
 OPEN_RUNS = 4096                                          # runs that are kept open
 
 Only = Tuple[bytes, bytes]                                # records, and of each whether the other one doesn't list it
-Kept = OrderedDict[bytes, None]
+Kept = OrderedDict[bytes, int]
 NOTHING: Tuple[Only, Only] = ((b"", b""), (b"", b""))
 Key = Tuple[int, int, int]                                # virtual channel, MAP (-1 for TM) and APID
 
@@ -37,18 +37,27 @@ class Difference:
 
     def hunks(self, channel: Channel) -> Iterator[Hunk]:
         """What they have of a channel, from the front on."""
-        listed = Listed()
+        listed, moved, number = Listed(), self.moved, 0
         a, b = (side.records(channel) for side in self.sides)
-        for both, here, there in hunks(a, b, self.folder):
+        members = Members((a, b), self.folder)
+        for both, here, there in hunks(a, b, members):
             only = ((here, listed.new(0, here)), (there, listed.new(1, there))) if not both else NOTHING
             for records, new in only:
                 if 0 in new:
                     self.move(channel, records, new)
+            number += len(here) // SIZE
             yield Hunk(both, only)
+        if listed.full:
+            lacks = members.lacks()[0]
+            self.moved = moved + number - sum(lacks.values())
+            self.settle(channel, lacks)
 
     def move(self, channel: Channel, records: bytes, new: bytes) -> None:
         """Takes packets, of which those that aren't new are listed for both."""
         self.moved += new.count(0)
+
+    def settle(self, channel: Channel, lacks: Counter[int]) -> None:
+        """Takes, by APID, how many packets the second one lacks, where more are listed for both than were taken."""
 
     def runs(self) -> Iterator[Run]:
         """The packets that only one of them has, in runs."""
@@ -61,24 +70,30 @@ class Difference:
 
 class Listed:
     """The packets of a channel that are listed for one recording, the last ones of each. One that is listed for the
-    other one too comes in another order."""
+    other one too comes in another order. `full`: there are too many to know that of all."""
 
     def __init__(self) -> None:
         # a plain dict would look for its first one among all that were deleted
         self.digests: Tuple[Kept, Kept] = (collections.OrderedDict(), collections.OrderedDict())
+        self.full = False
 
     def new(self, side: int, records: bytes) -> bytes:
-        """Of each packet whether it isn't listed for the other recording: 1, or 0."""
+        """Of each packet whether it isn't listed for the other recording: 1, or 0. Each one listed stands for one."""
         new = bytearray()
         own, others = self.digests[side], self.digests[1 - side]
         for digest, _, _ in RECORD.iter_unpack(records):
-            if digest in others:
-                del others[digest]
+            number = others.get(digest)
+            if number is not None:
+                if number > 1:
+                    others[digest] = number - 1
+                else:
+                    del others[digest]
                 new.append(0)
                 continue
-            own[digest] = None
+            own[digest] = own.get(digest, 0) + 1
             if len(own) > FAR:
                 own.popitem(last=False)
+                self.full = True
             new.append(1)
         return bytes(new)
 

@@ -4,16 +4,18 @@ import errno
 import os
 import shlex
 import stat
+from bisect import bisect
 from dataclasses import dataclass, field
 from typing import List, Optional, Sequence, Tuple
 
-from .._signs import Frames, many
+from .._signs import LONGEST, Frames, many
 
 WHOLE, HEAD = 4 << 20, 1 << 20                            # up to WHOLE a recording is read whole; else HEAD first
 READ, LOOKS = 8 << 20, 800_000                            # octets, and frames or the like, that are looked at
 LISTED = 20                                               # pieces that are listed, and places without frames
 NEAR = 8                                                  # frames at a cut that are looked at
 PIECES = 1 << 12                                          # pieces that are put together
+PLACES, TILED = 1 << 12, 0.99                             # units that are held against others; a share that is all
 
 Piece = Tuple[int, int]                                   # where frames lie one after another: begin and end
 
@@ -63,7 +65,8 @@ class RecordingFile:
 @dataclass(eq=False)
 class Answer:
     """What the recording is: lines, and then commands that read it, or why there are none. The options, with the kind
-    before them, are those with which the program reads it as it is."""
+    before them, are those with which the program reads it as it is. `places`: of its first frames, or other units;
+    `right`: the share of them whose error control field is right, where they have one; of packets end to end 1."""
 
     what: str
     lines: List[str] = field(default_factory=list)
@@ -72,6 +75,8 @@ class Answer:
     why: Optional[str] = None
     weight: int = 0
     covered: float = 1
+    places: Sequence[Piece] = ()
+    right: float = 0
     again: Optional[Tuple[int, int, Frames]] = None       # how a large recording is looked at again
 
     @property
@@ -85,9 +90,25 @@ class Answer:
         return self.sure, self.weight
 
     @property
-    def checked(self) -> bool:
-        """Whether error control shows it, beside which there is no other reading."""
-        return any(option.endswith("-fecf") for option in self.options)
+    def whole(self) -> bool:
+        """Whether error control shows it from the first octet on, so that nothing is around it."""
+        return self.sure and self.solid and self.places[0][0] == 0
+
+    @property
+    def solid(self) -> bool:
+        """Whether error control shows nearly all of it, with fewer gaps than it would have within others, which have a
+        header at least in each 2048 octets."""
+        gaps = sum(here[1] < there[0] for here, there in zip(self.places, self.places[1:]))
+        return self.right >= 0.98 and 2 * LONGEST * gaps < self.places[-1][1]
+
+    def within(self, other: "Answer", least: int) -> bool:
+        """Whether most of its units lie within those of another one, which are larger by so many octets. Those of TM
+        frames that only headers show may be any number of frames."""
+        begins, number = [begin for begin, _ in other.places], 0
+        for begin, end in self.places if other.right or other.sure and not other.what.startswith("TM") else ():
+            first, last = other.places[max(0, bisect(begins, begin) - 1)] if begins else (0, 0)
+            number += first <= begin and end <= last and last - first >= end - begin + least
+        return 2 * number > len(self.places)
 
 
 def quoted(name: str) -> str:

@@ -1,10 +1,11 @@
 """CADUs: sync markers, and TM frames between them."""
 
+from bisect import bisect
 from collections import Counter
 from typing import List, Optional, Sequence
 
 from .._signs import LONGEST, SHORTEST, Frames, by_control, inner, markers, plain_evidence, randomiser, unmasked
-from .answer import Answer, RecordingFile, quoted
+from .answer import PLACES, Answer, RecordingFile, quoted
 from .tm import about_tm, tm_commands
 
 UNITS = 256                                               # frames between markers that are looked at
@@ -24,19 +25,40 @@ def cadus(recording: RecordingFile, head: bytes) -> Optional[Answer]:
     if not distances:
         return Answer(CADUS, lines, why="there is one marker alone")
     distance, number = distances.most_common(1)[0]
-    if number < 0.3 * (len(at) - 1) or distance - 4 < SHORTEST:
-        return Answer(CADUS, lines, why="the markers have no one distance")
-    units = [head[here + 4:here + distance] for here in at[:UNITS] if here + distance <= len(head)]
-    answer = unmarked(recording, units, distance)
+    answer = Answer(CADUS, why="the markers have no one distance")
+    outer = next((there - at[0] for there in at[1:UNITS // 4] if outermost(at, there - at[0])), distance)
+    if outer != distance:
+        answer = between(recording, head, range(at[0], at[-1] + 1, outer), outer, outer // 2)
+    if not answer.sure and number >= 0.3 * (len(at) - 1) and distance - 4 >= SHORTEST:
+        answer = between(recording, head, at, distance)
+        answer.covered = distance * (1 + sum(distances[it] for it in distances if it % distance == 0)) / len(head)
     answer.lines[:0] = lines
     return answer
 
 
-def unmarked(recording: RecordingFile, units: Sequence[bytes], distance: int) -> Answer:
+def between(recording: RecordingFile, head: bytes, at: Sequence[int], distance: int, least: int = 0) -> Answer:
+    """The answer for what lies between these markers, where it is frames of so many octets."""
+    places = [(here + 4, here + distance) for here in at[:PLACES] if here + distance <= len(head)]
+    answer = unmarked(recording, [head[begin:end] for begin, end in places[:UNITS]], distance, least)
+    answer.places = places
+    return answer
+
+
+def outermost(at: Sequence[int], distance: int) -> bool:
+    """Whether there are markers at this distance from the first one up to the last: others are within frames."""
+    wanted, found = range(at[0], at[-1] + 1, distance), 0
+    for number, place in enumerate(wanted if distance - 4 >= SHORTEST else ()):
+        found += at[bisect(at, place) - 1] == place
+        if number - found > 0.02 * len(wanted):
+            return False
+    return found > 2
+
+
+def unmarked(recording: RecordingFile, units: Sequence[bytes], distance: int, least: int) -> Answer:
     """The answer for what lies between sync markers."""
     for mask, name in (None, "not randomised"), (randomiser(), "randomised"):
         plain = [unmasked(unit[:LONGEST], mask) for unit in units]
-        for length in lengths_within(plain, distance - 4):
+        for length in (it for it in lengths_within(plain, distance - 4) if it >= least):
             frames = Frames([[frame[:length] for frame in plain]], length)
             fecf, why = by_control(frames)
             if why or not fecf and not plain_evidence(frames):
@@ -45,7 +67,8 @@ def unmarked(recording: RecordingFile, units: Sequence[bytes], distance: int) ->
                 f", and {distance - 4 - length} octets after each, as of parity" if distance - 4 > length else "")]
             lines += [f"frames {frames.number} looked at", *about_tm(frames, fecf)]
             source = stripped(length, mask is not None) + f" < {quoted(recording.name)}"
-            return Answer(CADUS, lines, (), tm_commands(recording, frames, fecf, source))
+            return Answer(CADUS, lines, (), tm_commands(recording, frames, fecf, source),
+                          right=frames.checked() / frames.number if fecf else 0)
         frames = Frames([plain], distance - 4)
         if frames.share > 0.75 and frames.rising()[1] > 0.3:
             return Answer(CADUS, [name, *about_tm(frames, None)],

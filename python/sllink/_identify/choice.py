@@ -1,8 +1,11 @@
 """What a recording is, of all that it may seem."""
 
-from .answer import HEAD, WHOLE, Answer, RecordingFile, Stopped
+from typing import List
+
+from .._signs import LONGEST, SHORTEST, right_fields
+from .answer import HEAD, TILED, WHOLE, Answer, RecordingFile, Stopped
 from .cadu import cadus
-from .cltu import cltus
+from .cltu import cltus, stated
 from .other import archive, other_frames, space_packets
 from .tc import tc
 from .tm import shifted_tm, tm
@@ -21,25 +24,36 @@ def likeliest(recording: RecordingFile) -> Answer:
     if recording.size == 0:
         return Answer("empty", why="there is no octet")
     head = recording.read(0, recording.size if recording.size <= WHOLE else HEAD)
+    answers: List[Answer] = []
     for look in archive, cadus, cltus:
         answer = look(recording, head)
-        if answer:
+        if answer and (look is cadus and not (answer.sure and answer.covered >= TILED) or framed(head)):
+            answers.append(answer)
+        elif answer:
             return answer
-    answers = tm(recording, head)
-    if not any(answer.sure and answer.checked for answer in answers):
+    before = answers[:1]
+    answers += tm(recording, head)
+    if not any(answer.whole for answer in answers):
         answers += tc(recording, head)
     packets = space_packets(recording, head)
     if not (packets and packets.weight >= 2000) and not any(
-            answer.sure or answer.what.startswith("TC") and answer.covered >= 0.95 and answer.weight >= 512
-            for answer in answers):
-        answers += shifted_tm(recording, head)
+            it.whole or not it.right and (it.sure or it.what.startswith("TC") and it.covered >= 0.95
+                                          and it.weight >= 512) for it in answers):
+        answers += shifted_tm(recording, head, [it for it in answers if it.sure])
+        if any(it.sure and it.right and not it.solid for it in answers):
+            answers += shifted_tm(recording, head, [it for it in answers if it.sure])
     if packets:
         answers.append(packets)
+    # what is found within other units, or is found once more, is none
+    answers = [answer for at, answer in enumerate(answers) if not any(
+        answer.within(other, int(place > at)) for place, other in enumerate(answers) if other is not answer)]
     sure = [answer for answer in answers if answer.sure]
-    if packets and any(answer.weight > 20 * packets.weight for answer in sure):
+    if packets in answers and packets and any(answer.weight > 20 * packets.weight for answer in sure):
         answers.remove(packets)
     if len(sure) == 1 and (not packets or packets not in answers):
         return sure[0]
+    if before and before[0] in answers and not sure:
+        return before[0]
     if not answers:
         return other_frames(recording, head) or Answer(
             "unknown", why="no headers agree at any distance from 32 to 2048 octets, and no lengths lead from frame to "
@@ -50,3 +64,12 @@ def likeliest(recording: RecordingFile) -> Answer:
     if len(sure) > 1:
         best.why = "more than one reading fits: " + "; ".join(answer.what for answer in sure)
     return best
+
+
+def framed(head: bytes) -> bool:
+    """Whether the octets begin with frames: the first two of TC, or two of three TM frames of some length, have a right
+    error control field."""
+    first = head[:stated(head[:4].ljust(4))]
+    return right_fields((first, head[len(first):][:stated(head[len(first):][:4].ljust(4))])) > 1 or any(
+        right_fields(head[at:at + length] for at in range(0, min(3 * length, len(head)), length)) > 1
+        for length in range(SHORTEST, LONGEST + 1))

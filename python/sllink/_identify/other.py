@@ -1,10 +1,10 @@
 """Recordings that aren't TM or TC frames as the program reads them."""
 
 import re
-from typing import Dict, Optional
+from typing import Dict, List, Optional
 
 from .._signs import Frames, by_control, inner, plain_evidence, randomiser, strides, unmasked
-from .answer import Answer, RecordingFile, quoted
+from .answer import Answer, Piece, RecordingFile, quoted
 from .cadu import stripped
 from .tm import about_tm, tm_commands
 
@@ -27,14 +27,15 @@ def archive(recording: RecordingFile, head: bytes) -> Optional[Answer]:
         if head.startswith(magic):
             bare = re.sub(r"\.(gz|bz2|xz|zst|zip)$", "", recording.name)
             target = quoted(bare if bare != recording.name else recording.name + ".unpacked")
-            return Answer(what, [], (), [command.format(name, target)])
+            return Answer(what, [], (), [command.format(name, target)], places=[(0, len(magic))])
     for magic, what in CAPTURES:
         if head.startswith(magic):
             return Answer(f"{what}, of packets of a network", [], (),
                           [f"tshark -r {name} -T fields -e udp.payload | xxd -r -p > "
-                           f"{quoted(recording.name + '.frames')}"])
+                           f"{quoted(recording.name + '.frames')}"], places=[(0, len(magic))])
     if head and re.fullmatch(rb"[0-9A-Fa-f\s]*", head[:65536]) and re.search(rb"[0-9A-Fa-f]{8}", head[:65536]):
-        return Answer("hexadecimal digits", [], (), [f"xxd -r -p < {name} > {quoted(recording.name + '.octets')}"])
+        return Answer("hexadecimal digits", [], (), [f"xxd -r -p < {name} > {quoted(recording.name + '.octets')}"],
+                      places=[(0, 8)])
     return None
 
 
@@ -42,15 +43,17 @@ def space_packets(recording: RecordingFile, head: bytes) -> Optional[Answer]:
     """Packets end to end from the beginning, without frames."""
     at = number = rising = 0
     counts: Dict[int, int] = {}
+    places: List[Piece] = []
     while at + 7 <= len(head) and not head[at] >> 5 and number < 1000:
         name, count = (head[at] & 7) << 8 | head[at + 1], (head[at + 2] & 63) << 8 | head[at + 3]
         rising += counts.get(name) == (count - 1) % 16384
         counts[name] = count
-        at, number = at + 7 + (head[at + 4] << 8 | head[at + 5]), number + 1
+        places.append((at, at + 7 + (head[at + 4] << 8 | head[at + 5])))
+        at, number = places[-1][1], number + 1
     ends = at == len(head) or number >= 1000 or at > len(head) and len(head) < recording.size
     if number >= 4 and ends and rising and rising >= 0.5 * (number - len(counts)):
         return Answer("space packets end to end, without frames", [f"packets {number}, from the beginning"],
-                      why="sllink reads transfer frames, and there are none", weight=2 * number)
+                      why="sllink reads transfer frames, and there are none", weight=2 * number, places=places, right=1)
     return None
 
 

@@ -12,6 +12,11 @@ from .tc_frames import Numbered, TcFrames, channel_of
 def tc(recording: RecordingFile, head: bytes) -> List[Answer]:
     """What the recording is as TC frames, where it is any."""
     found = TcFrames(recording, head)
+    return [answer for it in (found, *found.outer()) for answer in tc_answer(recording, it)]
+
+
+def tc_answer(recording: RecordingFile, found: TcFrames) -> List[Answer]:
+    """The answer for TC frames, where they make up half of the octets or are hardly any."""
     frames, whole = found.frames, found.end == recording.size
     if not frames or len(frames) > 2 and found.covered < 0.5 * found.pieces[-1][1]:
         return []
@@ -49,7 +54,8 @@ def tc(recording: RecordingFile, head: bytes) -> List[Answer]:
         lines.append(f"no such frames at {found.pieces[-1][1]}")
     weight = right * 3 if fecf else 2 * len(frames)
     return [Answer("TC transfer frames", lines, words if source is None else (),
-                   [shell(recording, words, source)], why, weight, found.covered / found.end)]
+                   [shell(recording, words, source)], why, weight, found.covered / found.end, found.units,
+                   right / len(frames) if fecf or found.fecf else 0)]
 
 
 class Uplink:

@@ -7,7 +7,7 @@ from itertools import accumulate
 from typing import Dict, Iterator, List, Optional, Tuple
 
 from .._signs import fits_unit
-from .answer import NEAR, Piece, RecordingFile
+from .answer import NEAR, PLACES, Piece, RecordingFile
 
 SEARCHED = 1 << 16                                        # octets in which the next frame is searched for
 MOST = 1 << 17                                            # frames that are looked at
@@ -26,13 +26,14 @@ class TcFrames:
     """The TC frames that lie one after another in octets, from wherever the first one is, each with the number of its
     piece."""
 
-    def __init__(self, recording: RecordingFile, block: bytes) -> None:
+    def __init__(self, recording: RecordingFile, block: bytes, known: Optional[Tuple[List[int], bool]] = None) -> None:
         self.recording, self.block = recording, block
+        self.units: List[Piece] = []                         # the first frames
         self.pieces: List[Piece] = []
         self.numbered: List[Numbered] = []
         self.covered = 0                                     # the octets of all pieces
         self.next: Dict[Channel, Optional[int]] = {}         # the N(S) that come next
-        self.scids, self.fecf = self.common()
+        self.scids, self.fecf = known or self.common()
         self.begins = re.compile(rb"(?=[\x00-\x03\x20-\x23\x30-\x33][" + b"".join(
             re.escape(bytes([scid & 255])) for scid in self.scids) + rb"])", re.DOTALL) if self.scids else None
         begin = self.front() if self.scids else None
@@ -41,6 +42,7 @@ class TcFrames:
             full = len(self.numbered) + len(places) == MOST
             begin, end = (None, sum(places[-1])) if full else self.cut(places)
             self.numbered += [(len(self.pieces), block[at:at + length]) for at, length in places if at < end]
+            self.units += [(at, at + length) for at, length in places[:PLACES - len(self.units)] if at < end]
             if end > places[0][0]:
                 self.pieces.append((places[0][0], end))
                 self.covered += end - places[0][0]
@@ -87,7 +89,7 @@ class TcFrames:
         """The spacecraft of the longest run of frames that begins in the first octets, and whether their error control
         field is right."""
         scids: List[int] = []
-        best = right = 0
+        best = right = self.led = 0                          # the octets of that run
         for begin in range(min(len(self.block), 4096)):
             found: List[int] = []
             at, checked = begin, 0
@@ -100,11 +102,31 @@ class TcFrames:
                 checked += not crc_hqx(self.block[at:at + header[1]], 0xFFFF)
                 at += header[1]
             if len(found) > best:
-                best, right = len(found), checked
+                best, right, self.led = len(found), checked, at - begin
                 scids = [scid for scid, number in Counter(found).items() if number >= max(2, 0.1 * len(found))]
             if best >= 8:
                 break
+        self.led *= best >= 2
         return scids if best >= 2 else [], right >= max(2, 0.5 * best)
+
+    def right(self, at: int) -> int:
+        """The octets of the frame here whose error control field is right, or 0."""
+        _, length = self.header(at) or (0, 0)
+        return length if at + length <= len(self.block) and not crc_hqx(self.block[at:at + length], 0xFFFF) else 0
+
+    def outer(self) -> List["TcFrames"]:
+        """The frames of another spacecraft with right error control fields, of which the run that begins in the first
+        octets is the longest, where there are any: those of the first one may be within them."""
+        at, best, scids = 0, self.led, set(self.scids)
+        while at < min(len(self.block), 4096):
+            begin, found = at, []
+            while at - begin < SEARCHED and (length := self.right(at)):
+                found.append(channel_of(self.block[at:at + 5])[0])
+                at += length
+            if at - begin > best and (len(found) > 1 or begin == 0 or 3 * (at - begin) > len(self.block)):
+                best, scids = at - begin, set(found)
+            at += at == begin
+        return [TcFrames(self.recording, self.block, (sorted(scids), True))] if scids - set(self.scids) else []
 
     def begin(self, at: int, end: Optional[int] = None) -> Optional[int]:
         """The first place from here on at which frames of these spacecraft lie, or of those that begin within the first
@@ -167,11 +189,12 @@ class TcFrames:
                 return places
             self.recording.look(at, 3)                       # here, for its field, and for its channel
             after, ours = self.header(at + header[1]), header[0] in self.scids
-            if not ours and (not (after and after[0] in self.scids) or self.begin(at + 1, at + header[1]) is not None):
+            if not ours and not (self.fecf and self.right(at + header[1])) and (
+                    not (after and after[0] in self.scids) or self.begin(at + 1, at + header[1]) is not None):
                 return places
             places.append((at, header[1]))
             frame = self.block[at:at + header[1]]
-            if ours and self.doubtful(frame):
+            if ours and self.doubtful(frame) and not (self.fecf and self.right(at + header[1])):
                 within = self.begin(at + 1, at + header[1])
                 if within is not None and (self.fecf or self.goes_on(within, 1)):
                     return places

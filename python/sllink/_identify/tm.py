@@ -1,10 +1,12 @@
 """TM frames: the lengths that they may have, and the answer for each."""
 
-from typing import Dict, Iterable, List, Optional, Tuple
+from binascii import crc_hqx
+from collections import Counter
+from typing import Dict, Iterable, List, Optional, Sequence, Tuple
 
-from .._signs import LONGEST, SHORTEST, Frames, by_control, inner, plain_evidence, strides
-from .answer import (HEAD, WHOLE, Answer, RecordingFile, astray, field_line, frames_line, joined, listed, piece_lines,
-                     quoted, shell)
+from .._signs import LONGEST, SHORTEST, Frames, by_control, inner, plain_evidence, right_fields, strides
+from .answer import (HEAD, WHOLE, Answer, Piece, RecordingFile, astray, field_line, frames_line, joined, listed,
+                     piece_lines, quoted, shell)
 from .headers import ROWS, phases, spacecraft
 from .tm_search import TmSearch
 
@@ -26,30 +28,40 @@ def tm(recording: RecordingFile, head: bytes) -> List[Answer]:
     answers: List[Answer] = []
     lengths: List[int] = []
     candidates = sorted(candidates, key=lambda candidate: candidate[2].evidence, reverse=True)[:TRIED]
-    for _, stride, known in sorted(candidates, key=lambda candidate: candidate[:2]):
-        answer = None if multiple(stride, lengths) else tm_answer(recording, head, stride, 0, known)
+    for unchecked, stride, known in sorted(candidates, key=lambda candidate: candidate[:2]):
+        if unchecked and any(it.sure and it.right for it in answers):
+            break
+        answer = None if unchecked and multiple(stride, lengths) else tm_answer(recording, head, stride, 0, known)
         if answer:
             answers.append(answer)
             lengths += [stride] if answer.covered >= 0.5 else []
-        if answer and answer.sure and answer.checked:
-            break
     return completed(recording, head, answers)
 
 
-def shifted_tm(recording: RecordingFile, head: bytes) -> List[Answer]:
-    """The same, where the first frame isn't at the beginning, or frames shift soon after it."""
-    places = [0] if recording.size <= WHOLE // 64 else [0, recording.size // 2]
+def shifted_tm(recording: RecordingFile, head: bytes, known: Sequence[Answer]) -> List[Answer]:
+    """The same, where the first frame isn't at the beginning, or frames shift soon after it. What is known may be found
+    within them."""
+    begun = {(here, there - here) for it in known for (here, _), (there, _) in zip(it.places, it.places[1:])}
+    inside = bytearray(len(head))                         # 1: within one of what is known, where no other one begins
+    for begin, end in (place for it in known for place in it.places):
+        begin += crc_hqx(head[begin:end], 0xFFFF) != 0
+        inside[begin:end] = b"\1" * (end - begin)
+    places = [0] if known or recording.size <= WHOLE // 64 else [0, recording.size // 2]
     for place in places:
         block = head[place:] if place < len(head) else recording.read(place, HEAD // 8)
         block = block[:HEAD // 8]
         found: List[Tuple[float, int, int]] = []
         for stride in range(SHORTEST, LONGEST + 1):
-            if len(block) < 3 * stride:
+            if len(block) < (2 if known else 3) * stride:
                 break
             counts = phases(block, stride, None, 12)
+            if known:
+                counts = Counter({at: rise for at, rise in counts.items() if not inside[at]})
             recording.look(place, stride // 20 + sum(counts.values()) // 16)
             rows = min(12, len(block) // stride)
-            found += [(rise / rows, stride, at) for at, rise in counts.most_common(3) if rise >= max(3, 0.25 * rows)]
+            found += [(rise / rows, stride, at) for at, rise in counts.most_common(16 if known else 3)
+                      if (at, stride) not in begun and (rise >= max(3, 0.25 * rows) or known and right_fields(
+                          block[here:here + stride] for here in range(at, at + 3 * stride, stride)) > 1)]
         candidates: List[Tuple[int, int, Frames]] = []
         for _, stride, at in sorted(found, key=lambda it: (-it[0], it[1]))[:4 * TRIED]:
             stretch = [block[offset:offset + stride] for offset in range(at, len(block) - stride + 1, stride)][:ROWS]
@@ -57,13 +69,15 @@ def shifted_tm(recording: RecordingFile, head: bytes) -> List[Answer]:
         candidates = sorted(candidates, key=lambda candidate: candidate[2].evidence, reverse=True)[:TRIED]
         best: Dict[int, Answer] = {}
         for stride, at, frames in sorted(candidates, key=lambda candidate: candidate[:2]):
-            if multiple(stride, [length for length in best if length != stride and best[length].covered >= 0.5]):
+            others = [length for length in best if length != stride and best[length].covered >= 0.5]
+            others += {length for _, length in begun}
+            if multiple(stride, others) and frames.checked() < 2:
                 continue
             answer = tm_answer(recording, head, stride, (place + at) % stride, frames)
             if answer and (stride not in best or answer.rank > best[stride].rank):
                 best[stride] = answer
         answers = completed(recording, head, list(best.values()))
-        if any(answer.sure for answer in answers):
+        if known or any(answer.sure for answer in answers):
             return answers
     return []
 
@@ -87,9 +101,10 @@ def tm_answer(recording: RecordingFile, head: bytes, length: int, phase: int, fr
         return None
     fecf, why = by_control(known)
     # also where the field seems right: it is so too after zeros that follow each frame
-    shorter = inner(max(search.stretches, key=len))
-    if shorter and shorter < length:
-        return trailed(recording, search, length, shorter, search.pieces[0][0])
+    some = max(search.stretches, key=len)
+    shorter = inner(some)
+    if shorter and shorter < length and not (fecf and any(frame[shorter:].strip(b"\0") for frame in some)):
+        return trailed(recording, head, search, length, shorter)
     if fecf is False and not plain_evidence(known):
         rising, pairs = sum(known.steps.values()), sum(known.pairs.values())
         why = f"too few headers agree, or too few counts rise: {rising} of {pairs}"
@@ -107,7 +122,7 @@ def tm_answer(recording: RecordingFile, head: bytes, length: int, phase: int, fr
     return Answer(f"TM transfer frames of {length} octets", lines,
                   tm_command(known.main[0], length, fecf) if source is None else (),
                   () if why else tm_commands(recording, known, fecf, source), why, weight, search.covered(),
-                  (length, phase, frames))
+                  search.units(length), share(head, search.units(length), fecf), (length, phase, frames))
 
 
 def completed(recording: RecordingFile, head: bytes, answers: List[Answer]) -> List[Answer]:
@@ -119,8 +134,9 @@ def completed(recording: RecordingFile, head: bytes, answers: List[Answer]) -> L
     return [it for it in again if it]
 
 
-def trailed(recording: RecordingFile, search: TmSearch, stride: int, length: int, phase: int) -> Answer:
+def trailed(recording: RecordingFile, head: bytes, search: TmSearch, stride: int, length: int) -> Answer:
     """The answer for frames after each of which other octets come."""
+    phase = search.pieces[0][0]
     frames = Frames([[frame[:length] for frame in stretch] for stretch in search.stretches], length)
     fecf, why = by_control(frames)
     start = f"tail -c +{phase + 1} {quoted(recording.name)} | " if phase else ""
@@ -129,7 +145,13 @@ def trailed(recording: RecordingFile, search: TmSearch, stride: int, length: int
     lines = [f"frames of {length} octets at each {stride}; {stride - length} other octets come with each, as of parity",
              frames_line(recording, frames, stride), *about_tm(frames, fecf)]
     return Answer(f"TM transfer frames of {length} octets, with other octets between them", lines, (),
-                  tm_commands(recording, frames, fecf, source), why, 3 * frames.checked())
+                  tm_commands(recording, frames, fecf, source), why, 3 * frames.checked(),
+                  search.covered() * length / stride, search.units(length), share(head, search.units(length), fecf))
+
+
+def share(head: bytes, places: Sequence[Piece], fecf: Optional[bool]) -> float:
+    """The share of the frames at these places whose error control field is right, where they have one."""
+    return right_fields(head[begin:end] for begin, end in places) / len(places) if fecf else 0
 
 
 def about_tm(frames: Frames, fecf: Optional[bool]) -> List[str]:

@@ -7,7 +7,7 @@ from itertools import islice
 from typing import Dict, Iterable, Iterator, List, Optional, Sequence, Tuple
 
 from .._signs import FOLLOWED, Frames, by_control, inner, right_fields
-from .answer import NEAR, WHOLE, Piece, RecordingFile
+from .answer import NEAR, PLACES as COMPARED, WHOLE, Piece, RecordingFile
 from .headers import ROWS, agreements, header_tables, phases
 
 PLACES = 64                                               # further places that are read of a large recording
@@ -45,6 +45,11 @@ class TmSearch:
     def covered(self) -> float:
         """The share of the places, or of the octets that are read, at which there are frames."""
         return 1 - len(self.absent) / self.places if self.places else self.in_head
+
+    def units(self, length: int) -> List[Piece]:
+        """Where the first frames are, which may be shorter than the distance between them."""
+        return list(islice(((at, at + length) for begin, end in self.pieces
+                            for at in range(begin, min(end, len(self.head)), self.length)), COMPARED))
 
     def fits(self, block: bytes, at: int) -> bool:
         """Whether a frame of these seems to be here."""

@@ -24,8 +24,9 @@ from ._identify import Identification, identify
 from ._library import Library, Recording
 from ._options import Options, Words
 from ._program import find_program, lines
-from ._read import Anomalies, anomalies, counts, difference, frames, normal_form, packets, same_packets
+from ._read import Anomalies, anomalies, difference, frames, normal_form, packets, same_packets
 from ._records import Anomaly, Clcw, Count, Frame, Packet, Remainder, Run, Skip, TcFrame, TmFrame, Totals
+from ._counts import counts                                 # after what takes more where memory is short
 
 __all__ = [
     "Anomalies", "Anomaly", "Clcw", "Count", "Frame", "Identification", "Library", "Options", "Packet", "Recording",

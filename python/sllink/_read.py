@@ -15,7 +15,7 @@ from ._fault import SllinkError
 from ._library import Library, Recording
 from ._options import Words, words_of
 from ._program import Child, Program, lines, packet_lines
-from ._records import Anomaly, Count, Packet, Remainder, Run, Skip, TcFrame, TmFrame, Totals
+from ._records import Anomaly, Packet, Remainder, Run, Skip, TcFrame, TmFrame, Totals
 from ._records import anomaly_of, frame_of, packet_of
 from .tool import Refused
 
@@ -86,20 +86,6 @@ def packets(kind: str, recording: Recording, options: Words, *,
     with closing(lines("packets", kind, recording, options, program=program)) as listing:
         for line in listing:
             yield packet_of(line)
-
-
-def counts(some: Iterable[Packet]) -> List[Count]:
-    """How many packets there are of each virtual channel, MAP and APID, in rising order of these."""
-    found: Dict[Tuple[int, int, int], List[int]] = {}
-    for packet in some:
-        key = packet.vc, -1 if packet.map is None else packet.map, packet.apid
-        count = found.setdefault(key, [0, 0, 0, packet.count - 1])
-        count[0] += 1
-        count[1] += len(packet.octets)
-        count[2] += (count[3] + 1) % 16384 != packet.count
-        count[3] = packet.count
-    return [Count(vc, None if map_id < 0 else map_id, apid, *found[vc, map_id, apid][:3])
-            for vc, map_id, apid in sorted(found)]
 
 
 def normal_form(kind: str, recording: Recording, output: Union[str, bytes, "os.PathLike[str]", BinaryIO],

@@ -15,7 +15,7 @@ import sys
 from typing import Any, Callable, Iterator, List, NoReturn, Optional, Union
 
 from . import __version__
-from ._fault import SllinkError
+from ._fault import SllinkError, shown as shown              # pylint: disable=useless-import-alias
 from ._options import ASKS
 
 
@@ -24,13 +24,6 @@ STOPS = (signal.SIGHUP, signal.SIGINT, signal.SIGTERM)
 
 class Refused(Exception):
     """Why the tool can't do what is asked, in a line; its status is 2."""
-
-
-def shown(name: Union[str, bytes]) -> str:
-    """A name as it stands in a line: what is no printable text is escaped."""
-    # an octet that is no text is a letter as \udcff
-    letters = [it if it.isprintable() else ascii(it)[1:-1].replace("\\udc", "\\x") for it in os.fsdecode(name)]
-    return "".join(letters) or "''"
 
 
 def require_file(path: Union[str, bytes], again: bool = True) -> None:

@@ -200,6 +200,7 @@ class Listings(Way):
             it = getattr(sllink, name)
             if isinstance(it, type):
                 self.assertEqual(repr(it), f"<class 'sllink.{name}'>")
+        self.assertEqual(str(sllink.SllinkError(127, "a\x1b[1m\nb: isn't sllink")), "a\\x1b[1m\\nb: isn't sllink")
         error = sllink.SllinkError(2, "why")
         self.assertEqual(traceback.format_exception_only(type(error), error), ["sllink.SllinkError: why\n"])
         self.assertEqual(pickle.loads(pickle.dumps(error)).args, (2, "why"))

@@ -27,9 +27,10 @@ class Refused(Exception):
 
 
 def require_file(path: Union[str, bytes], again: bool = True) -> None:
-    """Refuses what is no file to read, with `again` also what can't be read more than once, as a pipe."""
+    """Refuses what is no file to read, with `again` also what can't be read more than once, as a pipe; and files of the
+    system, which have octets and no size: some of them never end."""
     try:
-        mode = os.stat(path).st_mode
+        mode, size = os.stat(path).st_mode, os.stat(path).st_size
     except (OSError, ValueError) as error:
         raise Refused(f"{shown(path)}: {reason_of(error)}") from None
     if stat.S_ISDIR(mode):
@@ -38,6 +39,10 @@ def require_file(path: Union[str, bytes], again: bool = True) -> None:
         raise Refused(f"{shown(path)}: is no file that can be read more than once")
     if not os.access(path, os.R_OK):
         raise Refused(f"{shown(path)}: can't be read: {os.strerror(errno.EACCES)}")
+    if stat.S_ISREG(mode) and not size:
+        with contextlib.suppress(OSError), open(os.open(path, os.O_RDONLY | os.O_NONBLOCK), "rb", buffering=0) as file:
+            if file.read(1) != b"":
+                raise Refused(f"{shown(path)}: is no file with a size, but one of the system")
 
 
 def reason_of(error: BaseException) -> str:

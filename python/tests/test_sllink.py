@@ -777,6 +777,8 @@ class Tools(InAFolder):
         tool.require_file(PASS)
         os.mkfifo(self.folder / "fifo")
         tool.require_file(self.folder / "fifo", again=False)
+        (self.folder / "empty").touch()
+        tool.require_file(self.folder / "empty")
         for path, said in ((self.folder / "none", "there is no such file"), (self.folder, "is a folder"),
                            (self.folder / "fifo", "more than once"), ("a\0b", "null")):
             with self.assertRaisesRegex(tool.Refused, said):

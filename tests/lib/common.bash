@@ -205,6 +205,7 @@ missing.tm: there is no such file
 folder: is a folder
 fifo: is no file that can be read more than once
 /dev/null: is no file that can be read more than once
+/proc/version: is no file with a size, but one of the system
 -dash.tm: is no option; a recording of this name is ./-dash.tm
 END
 }

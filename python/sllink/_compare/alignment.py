@@ -62,7 +62,7 @@ def longest(a: Sequence[bytes], b: Sequence[bytes]) -> List[Step]:
 def differing(a: Records, b: Records) -> List[Step]:
     """How the two go on where they differ, nothing where they have no packet in common among so many: few are looked at
     first, and more where not so many in a row show how they go on."""
-    for some in *FEW, NEAR:
+    for some in (*FEW, NEAR):
         here, there = a.window(some), b.window(some)
         if not here or not there:
             break

@@ -15,7 +15,7 @@ READ, LOOKS = 8 << 20, 800_000                            # octets, and frames o
 LISTED = 20                                               # pieces that are listed, and places without frames
 NEAR = 8                                                  # frames at a cut that are looked at
 PIECES = 1 << 12                                          # pieces that are put together
-PLACES, TILED = 1 << 12, 0.99                             # units that are held against others; a share that is all
+PLACES, TILED = 1 << 10, 0.99                             # units that are held against others; a share that is all
 
 Piece = Tuple[int, int]                                   # where frames lie one after another: begin and end
 
@@ -104,9 +104,11 @@ class Answer:
     def within(self, other: "Answer", least: int) -> bool:
         """Whether most of its units lie within those of another one, which are larger by so many octets. Those of TM
         frames that only headers show may be any number of frames."""
+        if not other.places or not other.right and (not other.sure or other.what.startswith("TM")):
+            return False
         begins, number = [begin for begin, _ in other.places], 0
-        for begin, end in self.places if other.right or other.sure and not other.what.startswith("TM") else ():
-            first, last = other.places[max(0, bisect(begins, begin) - 1)] if begins else (0, 0)
+        for begin, end in self.places:
+            first, last = other.places[max(0, bisect(begins, begin) - 1)]
             number += first <= begin and end <= last and last - first >= end - begin + least
         return 2 * number > len(self.places)
 

@@ -45,8 +45,8 @@ def between(recording: RecordingFile, head: bytes, at: Sequence[int], distance: 
 
 
 def outermost(at: Sequence[int], distance: int) -> bool:
-    """Whether there are markers at this distance from the first one up to the last: others are within frames."""
-    wanted, found = range(at[0], at[-1] + 1, distance), 0
+    """Whether there are markers at this distance from the first one on: others are within frames."""
+    wanted, found = range(at[0], at[-1] + 1, distance)[:PLACES], 0
     for number, place in enumerate(wanted if distance - 4 >= SHORTEST else ()):
         found += at[bisect(at, place) - 1] == place
         if number - found > 0.02 * len(wanted):

@@ -42,10 +42,10 @@ def shifted_tm(recording: RecordingFile, head: bytes, known: Sequence[Answer]) -
     """The same, where the first frame isn't at the beginning, or frames shift soon after it. What is known may be found
     within them."""
     begun = {(here, there - here) for it in known for (here, _), (there, _) in zip(it.places, it.places[1:])}
-    inside = bytearray(len(head))                         # 1: within one of what is known, where no other one begins
+    inside = bytearray(len(head))                         # 1: within a right one of these, where no other one begins
     for begin, end in (place for it in known for place in it.places):
-        begin += crc_hqx(head[begin:end], 0xFFFF) != 0
-        inside[begin:end] = b"\1" * (end - begin)
+        if not crc_hqx(head[begin:end], 0xFFFF):
+            inside[begin:end] = b"\1" * (end - begin)
     places = [0] if known or recording.size <= WHOLE // 64 else [0, recording.size // 2]
     for place in places:
         block = head[place:] if place < len(head) else recording.read(place, HEAD // 8)

@@ -19,11 +19,8 @@ try:
 except OSError:
     LIBRARY = None
 # Options at the edges of what the program takes. It is too short a limit that the program then refuses.
-EDGES = [
-    {}, {"scid": 0}, {"scid": 1023}, {"tm_length": 2048}, {"tc_length": 16}, {"window": 254}, {"vr": 255}, {"limit": 1},
-    {"limit": 9}, {"limit": 100}, {"limit": 352}, {"limit": 351}, {"limit": (1 << 64) - 1}, {"plain": [63, 0, 63]},
-    {"vr_of": {63: 255, 0: 1}},
-]
+EDGES = [{}, {"limit": 9}, {"limit": 100}, {"limit": 351}, {"limit": 352}, {"plain": [63, 0, 63]},
+         *({name: value} for name, (taken, _) in test_sllink.EDGES.items() for value in taken)]
 
 
 def setUpModule():

@@ -11,6 +11,7 @@ import dataclasses
 import errno
 import gzip
 import io
+import itertools
 import os
 import pathlib
 import pickle
@@ -53,7 +54,9 @@ RECORDINGS = [
     ("tc", PASS, sllink.Options(scid=1)),
 ]
 ASKING = "-h", "-hh", "--help", "-V", "--version"           # words by which the program reads no recording
-# Of each option values at the edges that the program takes, and such as it refuses.
+# Values that no option takes; and of each option values at the edges that the program takes, and such as it refuses.
+WRONG = ("--scid=0x2A7 --scid=1024 --scid=70000 --tm-length=31 --tm-length=70000 --tc-length=15 --window=3 --vr=256 "
+         "--vr-of=5:57,0:3 --vr-of=5=57 --plain=5-7 --limit=1G --limit=0").split()
 EDGES = {
     "scid": ([0, 1023], [-1, 1024]), "tm_length": ([32, 2048], [31, 2049]), "tc_length": ([16, 1024], [15, 1025]),
     "window": ([2, 254], [0, 9, 256]), "vr": ([0, 255], [-1, 256]), "limit": ([1, (1 << 64) - 1], [0, 1 << 64]),
@@ -68,6 +71,13 @@ def written(verb, kind, recording, options):
                              stdout=subprocess.PIPE, stderr=subprocess.PIPE, check=False)
     assert ran.returncode in (0, 1), ran.stderr
     return ran.stdout
+
+
+def ran(tool_name, *words):
+    """Status and output of a tool."""
+    command = [sys.executable, "-B", ROOT / "tools" / tool_name, *words]
+    done = subprocess.run(command, stdout=subprocess.PIPE, check=False)
+    return done.returncode, os.fsdecode(done.stdout)
 
 
 def checked(kind, recording, options, **way):
@@ -111,21 +121,19 @@ class InAFolder(unittest.TestCase):
         path.write_bytes(octets)
         return path
 
-    def program(self, script, version="[ $1 != --version ] || { echo sllink 1.0.0; exit; }\n"):
+    def program(self, script, version="[ $1 != --version ] || { echo sllink 1.0.0; exit; }\n", name="program"):
         """A program in place of sllink."""
-        path = self.file("program", f"#!/bin/sh\n{version}{script}".encode())
+        path = self.file(name, f"#!/bin/sh\n{version}{script}".encode())
         path.chmod(0o755)
         return path
 
+    def comes_true(self, that):
+        """It does within two seconds."""
+        self.assertTrue(any(that() or time.sleep(0.02) for _ in range(100)))
+
     def gone(self, number):
-        """Whether a process has ended, and was waited for."""
-        for _ in range(100):
-            try:
-                os.kill(number, 0)
-            except ProcessLookupError:
-                return True
-            time.sleep(0.02)
-        return False
+        """A process ends, and is waited for."""
+        self.comes_true(lambda: not os.path.exists(f"/proc/{number}"))
 
     def refused(self, status, said, read, *words, **more):
         """What it says where a call is refused, with this status and this in its text, by a regular expression."""
@@ -262,16 +270,12 @@ class TheOptions(InAFolder):
         self.assertEqual(list(sllink.packets("tm", FIRST, words)), list(sllink.packets("tm", FIRST, STATION)))
 
     def test_what_is_no_word(self):
-        for kind, words in (None, STATION), (b"tm", STATION), ("tm", ["--scid", 1]):
-            with self.assertRaisesRegex(TypeError, "is no word of a command line"):
+        """Text is no sequence of words."""
+        for kind, words in (None, STATION), (b"tm", STATION), ("tm", ["--scid", 1]), ("tm", "--scid 1"), ("tm", b"-V"):
+            with self.assertRaisesRegex(TypeError, "is no word of a command line|a sequence of words, no text"):
                 whole(sllink.lines("show", kind, FIRST, words))
         self.refused(2, "no word has an octet 0", sllink.lines, "show", "tm\0", FIRST, STATION)
         self.refused(2, "has no lines", sllink.lines, "normalise", "tm", FIRST, STATION)
-
-    def test_text_is_no_sequence_of_words(self):
-        for text in "--scid 1", b"--scid 1":
-            with self.assertRaises(TypeError):
-                list(sllink.packets("tm", FIRST, text))
 
     def test_refused(self):
         for options, said in ((["--scid=1024"], "spacecraft"), (["--scid=1", "--tm-length=31"], "tm length"),
@@ -284,6 +288,10 @@ class TheOptions(InAFolder):
                     self.assertNotIn("\n", text)
         for kind in ("tx", *ASKING):
             self.refused(2, "", sllink.frames, kind, PASS, STATION)
+        for word in WRONG:
+            option = word.partition("=")[0]
+            words = [word] if option == "--scid" else ["--scid=1", word]
+            self.refused(2, f"^sllink: .*; {option} takes .*[0-9]", sllink.packets, "tc", PASS, words)
 
     def test_refused_at_once(self):
         """What isn't an integer or a truth value, and each edge exactly if the program refuses it."""
@@ -323,6 +331,24 @@ class Recordings(Way):
     def check(self, recording):
         self.assertEqual(list(sllink.frames("tm", recording, STATION, program=self.by)), self.wanted)
 
+    def check_octets(self, recording):
+        self.assertEqual(octets_of(recording), self.octets)
+
+    def sent(self, *parts):
+        """A descriptor that doesn't block, on which these parts come, each a tenth of a second later."""
+        reader, writer = os.pipe()
+        os.set_blocking(reader, False)
+
+        def send():
+            for part in parts:
+                time.sleep(0.1)
+                os.write(writer, part)
+            os.close(writer)
+        sending = threading.Thread(target=send)
+        sending.start()
+        self.addCleanup(sending.join)
+        return reader
+
     def test_paths(self):
         for it in FIRST, str(FIRST), os.fsencode(FIRST):
             self.check(it)
@@ -350,17 +376,19 @@ class Recordings(Way):
                 self.check(it)
 
     def test_what_is_no_recording(self):
-        for it, error in ((self.folder / "missing", FileNotFoundError), (self.folder, IsADirectoryError),
-                          (io.StringIO("text"), TypeError)):
-            with self.assertRaises(error):
-                self.check(it)
-
-    def test_a_file_object_that_fails(self):
-        class Failing(io.RawIOBase):
-            def read(self, _=-1):
-                raise OSError(5, "it fails")
-        with self.assertRaisesRegex(OSError, "it fails"):
-            self.check(Failing())
+        """Neither is a truth, nor a descriptor below 0, whatever it means in calls, nor a number that none can be. A
+        read() that stops isn't the end, and one that has nothing yet can't be waited for without a descriptor."""
+        def reading(found):
+            return unittest.mock.Mock(spec=["read"], read=unittest.mock.Mock(side_effect=itertools.repeat(found)))
+        for it, fault, *number in (
+                (self.folder / "missing", FileNotFoundError), (self.folder, IsADirectoryError), (True, TypeError),
+                *((it, OSError, errno.EBADF) for it in (-1, -2, -3, 2 ** 40)),
+                (reading("text"), TypeError), (reading(StopIteration), RuntimeError),
+                (reading(OSError(5, "it fails")), OSError, 5), (reading(None), BlockingIOError)):
+            for read in [*READERS, lambda _, it, *more, **way: octets_of(it)]:
+                with self.subTest(it=it, read=read), self.assertRaises(fault) as raised:
+                    whole(read("tm", it, STATION, program=self.by))
+                self.assertEqual([raised.exception.errno for _ in number], number)
 
     def test_a_fifo(self):
         os.mkfifo(self.folder / "fifo")
@@ -381,63 +409,19 @@ class Recordings(Way):
                 os.close(writer)
                 self.assertEqual(list(frames), self.wanted[1:])
 
-    def test_descriptors_below_0(self):
-        """They are no recording, whatever they mean in calls."""
-        for number in -1, -2, -3:
-            for read in READERS:
-                with self.assertRaises(OSError) as raised:
-                    whole(read("tm", number, STATION, program=self.by))
-                self.assertEqual(raised.exception.errno, errno.EBADF)
-            with self.assertRaises(OSError) as raised:
-                octets_of(number)
-            self.assertEqual(raised.exception.errno, errno.EBADF)
-
-    def test_no_recording(self):
-        """A truth is no descriptor, nor is a number that none can be; a read() that stops isn't the end."""
-        class Stopping:
-            def read(self, _=-1):
-                raise StopIteration
-        for recording, fault in (True, TypeError), (2 ** 40, OSError), (Stopping(), RuntimeError):
-            with self.assertRaises(fault):
-                list(sllink.frames("tm", recording, STATION))
-            with self.assertRaises(fault):
-                octets_of(recording)
-
     def test_a_descriptor_that_does_not_block(self):
         """It is waited for."""
-        for read in self.check, lambda number: self.assertEqual(octets_of(number), self.octets):
-            reader, writer = os.pipe()
-            os.set_blocking(reader, False)
-            sending = threading.Timer(0.2, lambda end: (os.write(end, self.octets), os.close(end)), [writer])
-            sending.start()
-            read(reader)
-            sending.join()
-            os.close(reader)
+        for read in self.check, self.check_octets:
+            with os.fdopen(self.sent(self.octets), "rb") as file:
+                read(file.fileno())
 
     def test_a_file_that_does_not_block(self):
         """It is waited for, also where read() has None, and read1() nothing, while nothing is there."""
         for buffering in -1, 0:
-            for read in self.check, lambda file: self.assertEqual(octets_of(file), self.octets):
-                reader, writer = os.pipe()
-                os.set_blocking(reader, False)
-
-                def send(end=writer):
-                    for part in self.octets[:100], self.octets[100:320], self.octets[320:]:
-                        time.sleep(0.1)
-                        os.write(end, part)
-                    os.close(end)
-                sending = threading.Thread(target=send)
-                sending.start()
-                with os.fdopen(reader, "rb", buffering) as file:
+            for read in self.check, self.check_octets:
+                parts = self.octets[:100], self.octets[100:320], self.octets[320:]
+                with os.fdopen(self.sent(*parts), "rb", buffering) as file:
                     read(file)
-                sending.join()
-
-        class Empty(io.RawIOBase):
-            def read(self, _=-1):
-                return None
-        for read in self.check, octets_of:
-            with self.assertRaises(BlockingIOError):
-                read(Empty())
 
     def test_refused_while_the_recording_waits(self):
         reader, writer = os.pipe()
@@ -449,9 +433,6 @@ class Recordings(Way):
 class Ends(InAFolder):
     """Programs that stop, and readers that do."""
 
-    def test_too_long(self):
-        self.refused(3, "too long", sllink.packets, "tm", FIRST, sllink.Options(1, limit=100))
-
     def test_no_program(self):
         for name in self.folder / "none", self.folder, PASS, "no-such-program", self.folder / "x" / "y":
             with self.subTest(name=name):
@@ -460,7 +441,8 @@ class Ends(InAFolder):
     def test_another_program(self):
         """One that doesn't answer to --version as sllink does is refused before it sees a recording."""
         others = [shutil.which(name) for name in ("false", "true", "yes", "echo", "cat")]
-        others += [self.program(script, "") for script in ("exec yes", "echo sllink", "echo sllink 1.0.0; exit 1")]
+        scripts = "exec yes", "echo sllink", "echo sllink 1.0.0; exit 1", "echo sllink 1.0.0 of another kind"
+        others += [self.program(script, "", str(number)) for number, script in enumerate(scripts)]
         for name in others:
             said = re.escape(f"{name}: isn't sllink, by its answer to --version")
             for read in READERS:
@@ -528,14 +510,14 @@ class Ends(InAFolder):
             next(frames)
             os.kill(number(), 0)
             frames.close()
-            self.assertTrue(self.gone(number()))
+            self.gone(number())
         with started(sllink.anomalies, PASS) as anomalies:
             next(anomalies)
-        self.assertTrue(self.gone(number()))
+        self.gone(number())
         packet = "vc 0 apid 1 type 0 secondary 0 flags 3 count 0 octets 7 00010203040506"
         for _ in started(sllink.packets, PASS, packet):
             break
-        self.assertTrue(self.gone(number()))
+        self.gone(number())
 
     def test_memory(self):
         """It doesn't grow with the listing."""
@@ -559,11 +541,8 @@ class Ends(InAFolder):
             next(sllink.frames("tm", io.BytesIO(bytes(10000)), STATION))
             sllink.same_packets("tm", FIRST, THIRD, STATION)
             self.refused(2, "--spare", sllink.frames, "tm", io.BytesIO(bytes(10000)), ["--spare"])
-        for _ in range(100):                                 # the threads that listen end a little later
-            if len(os.listdir("/proc/self/fd")) == len(before):
-                break
-            time.sleep(0.02)
-        self.assertEqual(len(os.listdir("/proc/self/fd")), len(before))
+        # the threads that listen end a little later
+        self.comes_true(lambda: len(os.listdir("/proc/self/fd")) == len(before))
 
 
 class NormalForms(Way):
@@ -612,11 +591,9 @@ class NormalForms(Way):
         return sllink.same_packets(kind, *words, program=self.by)
 
     def test_compared(self):
-        for one in FIRST, SECOND, THIRD:
-            for other in FIRST, SECOND, THIRD:
-                same = one == other or THIRD not in (one, other)
-                self.assertIs(self.same(one, other, STATION), same)
-                self.assertIs(self.same(io.BytesIO(one.read_bytes()), other, STATION), same)
+        for one, other in itertools.product([FIRST, SECOND, THIRD], repeat=2):
+            for recording in one, io.BytesIO(one.read_bytes()):
+                self.assertIs(self.same(recording, other, STATION), one == other or THIRD not in (one, other))
         self.assertIs(self.same(FIRST, SECOND, STATION, sllink.Options(1, 32, tm_fecf=True, vr=3)), True)
         self.assertIs(self.same(UPLINK, UPLINK, OF_UPLINK, kind="tc"), True)
         self.assertIs(self.same(UPLINK, io.BytesIO(), OF_UPLINK, kind="tc"), False)
@@ -634,7 +611,7 @@ class NormalForms(Way):
         program = self.program(f"echo $$ >> {self.folder}/numbers; exec yes $$")
         self.assertIs(sllink.same_packets("tm", os.devnull, os.devnull, STATION, program=program), False)
         for number in (self.folder / "numbers").read_text().split():
-            self.assertTrue(self.gone(int(number)))
+            self.gone(int(number))
 
 
 def frames_of(letters, fecf=False):
@@ -646,11 +623,6 @@ def frames_of(letters, fecf=False):
 
 class Identifications(InAFolder):
     """What a recording is."""
-
-    def tool(self, *words):
-        """Status and output of sllink-identify."""
-        ran = subprocess.run([ROOT / "tools" / "sllink-identify", *words], stdout=subprocess.PIPE, check=False)
-        return ran.returncode, os.fsdecode(ran.stdout)
 
     def test_lines(self):
         """They are those of the tool, and its words are the kind and the options."""
@@ -664,9 +636,9 @@ class Identifications(InAFolder):
             with self.subTest(path=path):
                 found = sllink.identify(path)
                 self.assertEqual((found.kind, found.options), read)
-                self.assertEqual(self.tool(path), (0 if found.commands else 1, f"{path}: {found}\n"))
+                self.assertEqual(ran("sllink-identify", path), (0 if found.commands else 1, f"{path}: {found}\n"))
                 words = f"{' '.join(found.words)}\n" if found.words else ""
-                self.assertEqual(self.tool("--options", path), (0 if words else 1, words))
+                self.assertEqual(ran("sllink-identify", "--options", path), (0 if words else 1, words))
                 self.assertEqual(found.why is None, bool(found.commands))
 
     def test_read_with_what_is_found(self):
@@ -713,17 +685,15 @@ class Differences(Way):
         return list(sllink.difference(kind, *words, program=self.by))
 
     def test_runs(self):
-        for one in FIRST, SECOND, THIRD:
-            for other in FIRST, SECOND, THIRD:
-                side = "" if one == other or THIRD not in (one, other) else "<" if other == THIRD else ">"
-                runs = [sllink.Run(side, 1, None, 200, (0, 1), 2)] if side else []
-                self.assertEqual(self.found(one, other, STATION), runs)
-                self.assertEqual(self.found(io.BytesIO(one.read_bytes()), other, STATION), runs)
-                with open(one, "rb") as file:
-                    self.assertEqual(self.found(file, other, STATION), runs)
-                for run in runs:
-                    self.assertEqual(str(run), f"{side} vc 1 apid 200 counts 0..1 packets 2")
-                    self.assertEqual(pickle.loads(pickle.dumps(run)), run)
+        for one, other in itertools.product([FIRST, SECOND, THIRD], repeat=2):
+            side = "" if one == other or THIRD not in (one, other) else "<" if other == THIRD else ">"
+            runs = [sllink.Run(side, 1, None, 200, (0, 1), 2)] if side else []
+            with open(one, "rb") as file:
+                for recording in one, io.BytesIO(one.read_bytes()), file:
+                    self.assertEqual(self.found(recording, other, STATION), runs)
+            for run in runs:
+                self.assertEqual(str(run), f"{side} vc 1 apid 200 counts 0..1 packets 2")
+                self.assertEqual(pickle.loads(pickle.dumps(run)), run)
 
     def test_an_uplink(self):
         for empty in os.devnull, io.BytesIO():
@@ -735,9 +705,8 @@ class Differences(Way):
         """Packets that both have in another order are in a run of each, as sllink-compare has them."""
         one, other = self.file("one", frames_of("abc")), self.file("other", frames_of("ba"))
         found = [str(it) for it in self.found(one, other, sllink.Options(1, tm_length=32))]
-        ran = subprocess.run([sys.executable, "-B", str(ROOT / "tools" / "sllink-compare"), "tm", str(one), str(other),
-                              "--scid", "1", "--tm-length", "32"], stdout=subprocess.PIPE, check=False)
-        self.assertEqual(found, [line for line in ran.stdout.decode().splitlines() if line[0] in "<>"])
+        _, said = ran("sllink-compare", "tm", one, other, "--scid", "1", "--tm-length", "32")
+        self.assertEqual(found, [line for line in said.splitlines() if line[0] in "<>"])
         self.assertGreater(len(found), 1)
 
     def test_options_of_its_own(self):

@@ -13,7 +13,7 @@ import signal
 import subprocess
 import sys
 from concurrent.futures import ThreadPoolExecutor
-from typing import List, Sequence, Tuple
+from typing import Any, List, Sequence, Tuple
 
 HERE = os.path.dirname(os.path.realpath(__file__))
 ROOT = os.path.dirname(os.path.dirname(HERE))
@@ -56,6 +56,12 @@ def finish() -> int:
     """The last line, and the status."""
     print(f"{counted['tried'] - counted['failed']} passed, {counted['failed']} failed, {counted['skipped']} skipped")
     return 1 if counted["failed"] else 0
+
+
+def ran(*words: str, **streams: Any) -> Tuple[int, bytes, str]:
+    """Status, output and errors of a command."""
+    done = subprocess.run(words, stdout=subprocess.PIPE, stderr=subprocess.PIPE, check=False, **streams)
+    return done.returncode, done.stdout, os.fsdecode(done.stderr)
 
 
 def program_of(words: Sequence[str]) -> str:

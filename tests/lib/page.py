@@ -17,8 +17,6 @@ IN_LINE = {"td", "th", "dt", "dd", "b", "code", "a"}
 
 
 class Page(HTMLParser):
-    """What is found in a page."""
-
     def __init__(self):
         super().__init__()
         self.open, self.complaints, self.ids, self.seen = [], [], set(), []
@@ -68,7 +66,6 @@ class Page(HTMLParser):
 
 
 def main():
-    """Looks at the page."""
     page = Page()
     words = sys.stdin.buffer.read().decode()
     page.feed(words)

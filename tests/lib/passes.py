@@ -61,11 +61,9 @@ class Channel(recordings.Stream):
         self.counts = {100 * (vc + 1) + n: 0 for n in range(3)}
 
     def room(self, word):
-        """The octets of a frame's data field."""
         return self.words.length - 6 - len(word) - (0 if self.words.no_field else 2)
 
     def packet(self):
-        """The next packet."""
         apid = self.rng.choice(list(self.counts))
         self.counts[apid] += 1
         size = self.rng.randint(self.about // 2, self.about * 3 // 2)
@@ -80,7 +78,6 @@ class Channel(recordings.Stream):
 
 
 def downlink(words):
-    """The frames of a pass."""
     rng = random.Random(words.seed)
     channels = [Channel(rng, vc, words) for vc in range(words.channels)]
     weights = [8] + [1 + vc % 2 for vc in range(1, words.channels)]
@@ -93,7 +90,6 @@ def downlink(words):
 
 
 def uplink(words):
-    """The frames of an uplink."""
     rng, frame = random.Random(words.seed), partial(recordings.tc_frame, words.scid, fecf=not words.no_field)
     sent = [0] * words.channels
     counts = [0] * words.channels
@@ -164,7 +160,6 @@ def parsed(line=None):
 
 
 def main():
-    """Writes the pass."""
     for frame in recorded(parsed()):
         sys.stdout.buffer.write(frame)
 

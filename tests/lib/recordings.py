@@ -6,10 +6,9 @@ from binascii import crc_hqx
 from collections import namedtuple
 
 # What a recording is: kind, octets, spacecraft, length of the frames (of TC: the longest), whether they have an error
-# control field, how many TM frames have an operational control field, the virtual channels of TC frames without segment
-# headers, the initial V(R) of each, the frames that were kept, the offsets at which the frames shift, and those frames
-# that are whole.
-Recording = namedtuple("Recording", "kind octets scid length fecf ocf plain starts frames shifts whole")
+# control field, the virtual channels of TC frames without segment headers, the initial V(R) of each, how many frames
+# were kept, and those frames that are whole.
+Recording = namedtuple("Recording", "kind octets scid length fecf plain starts frames whole")
 
 
 def write(name, octets):
@@ -64,7 +63,6 @@ class Source(Stream):
         self.longest = self.shortest + random.choice((0, 20, room, 3 * room))
 
     def packet(self):
-        """The next packet."""
         if self.random.random() < 0.05:
             return packet(2047, 0, bytes(self.random.randint(1, 40)))
         apid = self.random.choice(list(self.apids))
@@ -200,12 +198,10 @@ def recording(random, kind, frames=None, shifts=0, noise=None, cuts=0):
         starts = {vc: random.choice((0, random.randrange(256))) for vc in vcs}
         longest = random.choice((20, 60, 200, 480))
         sent = tc_frames(random, frames, scid, longest, fecf, vcs, plain, starts)
-        ocf = 0
     sent = [(frame, random.random() >= errors) for frame in sent if random.random() >= losses]
     kept = [frame if is_whole else flipped(random, frame) for frame, is_whole in sent]
     length = max(map(len, kept), default=0)
-    (octets, whole), places = cut(random, kept, [is_whole for _, is_whole in sent], cuts), []
+    octets, whole = cut(random, kept, [is_whole for _, is_whole in sent], cuts)
     for place in sorted(random.randrange(len(octets)) for _ in range(shifts)):
         octets = octets[:place] + octets[place + random.randint(1, length - 1):]
-        places.append(place)
-    return Recording(kind, octets, scid, length, fecf, ocf, tuple(plain), starts, len(kept), places, whole)
+    return Recording(kind, octets, scid, length, fecf, tuple(plain), starts, len(kept), whole)

@@ -109,7 +109,6 @@ def options_of(words: Words) -> Options:
 
 
 def words_of(options: Words) -> List[str]:
-    """Options as words of the command line."""
     if isinstance(options, Options):
         return options.words()
     if isinstance(options, (str, bytes)):

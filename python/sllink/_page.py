@@ -1,7 +1,7 @@
 """Parts of a page in HTML: what is shown is escaped here, and nowhere else."""
 
 from html import escape
-from typing import Iterable, List, Optional, Sequence, Tuple, Union
+from typing import Iterable, Optional, Sequence, Tuple, Union
 
 from ._check_words import MARKS
 from ._picture import STYLE
@@ -93,7 +93,6 @@ def verdict(sentence: str, asked: Sequence[str], good: bool) -> str:
 
 
 def facts(pairs: Iterable[Sequence[str]]) -> str:
-    """Names and values."""
     words = "".join(f"<dt>{escape(name)}</dt><dd>{escape(value)}</dd>" for name, value in pairs)
     return f'<dl class="facts">{words}</dl>'
 
@@ -111,26 +110,27 @@ def figure(what: str, svg: str, keys: Iterable[Tuple[str, Sequence[str]]]) -> st
 
 
 class Table:
-    """A table: its name, and the heads of its columns. The numbers of `losses` stand out where they aren't 0, those of
-    `names` aren't amounts, and the columns of `words` are aligned to the left."""
+    """A table: its name, the heads of its columns, its rows. Numbers under a head with a ! before it stand out where
+    they aren't 0, those under one with a # aren't amounts, and a column under one with a < is aligned to the left."""
 
-    def __init__(self, name: str, heads: Sequence[str], losses: Sequence[str] = (), names: Sequence[str] = (),
-                 words: Sequence[str] = ()) -> None:
-        self.name, self.heads = name, heads
-        self.losses, self.names, self.words = set(losses), set(names), set(words)
-        self.rows: List[Sequence[Optional[Value]]] = []
+    def __init__(self, name: str, heads: Sequence[str], rows: Iterable[Sequence[Optional[Value]]]) -> None:
+        self.name, self.rows = name, list(rows)
+        self.marks = [head[0] if head[0] in "!#<" else "" for head in heads]
+        self.heads = [head[len(mark):] for head, mark in zip(heads, self.marks)]
         self.sums: Optional[Sequence[Optional[Value]]] = None
         self.left = 0                                     # rows that are left out, as far as they are known
 
-    def sum_up(self) -> None:
-        """Gives the table a last row with the sums of its amounts."""
-        columns = zip(self.heads[1:], list(zip(*self.rows))[1:])
-        self.sums = ["all", *(None if name in self.names else sum(value for value in values if isinstance(value, int))
-                              for name, values in columns)]
+    def summed(self) -> "Table":
+        """With a last row that has the sums of its amounts."""
+        columns = zip(self.marks[1:], list(zip(*self.rows))[1:])
+        self.sums = ["all", *(None if mark == "#" else sum(it for it in values if isinstance(it, int))
+                              for mark, values in columns)]
+        return self
 
     def html(self) -> str:
         """The table as HTML, and under it how many rows are left out."""
-        head = "".join(f'<th scope="col"{self._class(name, None)}>{escape(name)}</th>' for name in self.heads)
+        head = "".join(f'<th scope="col"{self._class(at, None)}>{escape(name)}</th>'
+                       for at, name in enumerate(self.heads))
         body = "".join(map(self._row, self.rows[:MOST_ROWS]))
         foot = f"<tfoot>{self._row(self.sums)}</tfoot>" if self.sums and len(self.rows) > 1 else ""
         left = self.left + max(0, len(self.rows) - MOST_ROWS)
@@ -138,28 +138,25 @@ class Table:
         return scrolled(self.name, f"<table><thead><tr>{head}</tr></thead><tbody>{body}</tbody>{foot}</table>") + more
 
     def _row(self, row: Sequence[Optional[Value]]) -> str:
-        cells = [f'<th scope="row"{self._class(self.heads[0], None)}>{cell(row[0], True)}</th>']
-        cells += [f"<td{self._class(name, value)}>{cell(value, name in self.names)}</td>"
-                  for name, value in zip(self.heads[1:], row[1:])]
+        cells = [f"<td{self._class(at, value)}>{cell(value, self.marks[at])}</td>" for at, value in enumerate(row)]
+        cells[0] = f'<th scope="row"{self._class(0, None)}>' + cell(row[0], "#") + "</th>"
         return f"<tr>{''.join(cells)}</tr>"
 
-    def _class(self, name: str, value: Optional[Value]) -> str:
-        kinds = ["words"] if name in self.words else []
-        if isinstance(value, str) and len(value) > 24:
-            kinds.append("long")
-        if value == 0 and name not in self.names:
+    def _class(self, at: int, value: Optional[Value]) -> str:
+        mark = self.marks[at]
+        kinds = ["words"] * (mark == "<") + ["long"] * (isinstance(value, str) and len(value) > 24)
+        if value == 0 and mark != "#":
             kinds.append("nil")
-        elif value is not None and name in self.losses:
+        elif value is not None and mark == "!":
             kinds.append("bad")
         return f' class="{" ".join(kinds)}"' if kinds else ""
 
 
-def cell(value: Optional[Value], is_name: bool) -> str:
-    return "" if value is None else f"{value:,}" if isinstance(value, int) and not is_name else escape(str(value))
+def cell(value: Optional[Value], mark: str) -> str:
+    return "" if value is None else f"{value:,}" if isinstance(value, int) and mark != "#" else escape(str(value))
 
 
 def listing(lines: Iterable[str]) -> str:
-    """Lines as they stand in a listing."""
     return '<pre tabindex="0">' + escape("\n".join(lines)) + "</pre>"
 
 

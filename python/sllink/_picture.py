@@ -51,7 +51,6 @@ class Sign(NamedTuple):
     lost: int = 0
 
     def scale(self) -> float:
-        """How large it is."""
         return min(0.7 + 0.13 * self.lost.bit_length(), 1.6) if self.lost else 1
 
 
@@ -67,7 +66,6 @@ class Picture:
         self.coarse = 1                                   # stretches in which marks are joined
 
     def draw(self) -> str:
-        """The picture as SVG."""
         parts, y = (self._heading(), 82) if self.heading else ([], 8)
         drawn, end = self._rows(y)
         parts += drawn + self._axis(end)
@@ -100,7 +98,6 @@ class Picture:
                 text(16, 48, f"{asked}    {survey.size} octets", kind="soft"), text(16, 66, totals, kind="soft")]
 
     def x(self, offset: float) -> float:
-        """Where an offset lies."""
         return LEFT + (self.right - LEFT) * min(offset, self.survey.span) / self.survey.span
 
     def _row(self, row: int, y: int) -> Tuple[List[str], int]:
@@ -147,12 +144,10 @@ class Picture:
 
     def _short_cells(self, row: int, y: int) -> List[str]:
         """A cell for each frame of a row."""
-        cells, parts = self.survey.cells, []
-        ends = [cell.start for cell in cells[1:]] + [self.survey.size]
-        for cell, end in zip(cells, ends):
-            if cell.row == row and cell.what != "rest":
-                parts.append(self._short_cell(cell, end, y))
-        return parts
+        cells = self.survey.cells
+        ends = [*(cell.start for cell in cells[1:]), self.survey.size]
+        return [self._short_cell(cell, end, y) for cell, end in zip(cells, ends)
+                if cell.row == row and cell.what != "rest"]
 
     def _short_cell(self, cell: Cell, end: int, y: int) -> str:
         x = self.x(cell.start)
@@ -186,9 +181,8 @@ class Picture:
         height = CELL * (1 if row == NOT_READ else LEAST + (1 - LEAST) * number / most)
         parts = []
         for what, frames in cell.items():
-            high = height * frames / number
-            top -= high
-            parts.append(box(x, top, wide, high, "c-" + what))
+            top -= height * frames / number
+            parts.append(box(x, top, wide, height * frames / number, "c-" + what))
         words = ", ".join(f"{CELLS[what][1]}: {frames}" for what, frames in cell.items())
         return f"<g><title>octets from {start:.0f} to {end:.0f}: {escape(words)}</title>{''.join(parts)}</g>"
 
@@ -208,11 +202,9 @@ class Picture:
                 joined[-1][1] = end
             else:
                 joined.append([start, end])
-        parts = []
-        for start, end in joined:
-            bar = box(self.x(start), y, max(self.x(end) - self.x(start), 1), BAR - 2, "f-" + flag.split()[0])
-            parts.append(f"<g><title>{flag}: octets from {start} to {end}</title>{bar}</g>")
-        return parts
+        return [f"<g><title>{flag}: octets from {start} to {end}</title>"
+                f"{box(self.x(start), y, max(self.x(end) - self.x(start), 1), BAR - 2, 'f-' + flag.split()[0])}</g>"
+                for start, end in joined]
 
     def _marks(self, row: int, what: str, y: float) -> List[str]:
         marks = [self._sign(what, mark) for mark in self._joined(self.survey.marks[row, what])]

@@ -10,7 +10,7 @@ from ._compare.store import Packets, room
 from ._page import Table, facts, figure, folded, heading, listing, page, paragraph, verdict
 from ._picture import Picture
 from ._questions import questions
-from ._survey import MOST_LINES, MOST_LOCKOUTS, Reports, Survey
+from ._survey import MOST_LINES, MOST_LOCKOUTS, NOT_READ, Gaps, Reports, Survey
 from ._tally import MOST_APIDS, MOST_RUNS, Lacks, Tally
 from ._verdict import listed, lost_frames, missing_counts, number_of, said, said_of_two
 from .tool import State, about, shown
@@ -50,7 +50,6 @@ class Recording:
 
 
 def digest_of(path: str) -> str:
-    """The SHA-256 of a recording."""
     digest = hashlib.sha256()
     with open(path, "rb") as file:
         for octets in iter(lambda: file.read(1 << 16), b""):
@@ -59,7 +58,6 @@ def digest_of(path: str) -> str:
 
 
 def report_of_one(kind: str, path: str, options: Sequence[str]) -> str:
-    """The page of a recording."""
     it = Recording(kind, path, options).surveyed()
     parts = ["<header>", heading(1, it.name), read_as(it), "</header>",
              verdict(said(it.survey, it.tally), it.asked, not it.survey.anomalies),
@@ -69,7 +67,6 @@ def report_of_one(kind: str, path: str, options: Sequence[str]) -> str:
 
 
 def report_of_two(kind: str, paths: Sequence[str], options: Sequence[Sequence[str]]) -> str:
-    """The page of two recordings, each with its options."""
     with room("sllink-report") as folder:
         here, there = (Packets(os.path.join(folder, side)) for side in "ab")
         one, other = (Recording(kind, *its) for its in zip(paths, options, (here, there)))
@@ -100,12 +97,10 @@ def name_apart(one: Recording, other: Recording, paths: Sequence[str]) -> None:
 
 
 def read_as(it: Recording) -> str:
-    """With which options a recording was read."""
     return paragraph("Read as " + " ".join([it.survey.kind, *map(shown, it.survey.options)]), "read")
 
 
 def facts_of(it: Recording) -> List[Tuple[str, str]]:
-    """What tells a recording."""
     survey = it.survey
     totals = [f"{survey.frames:,} frames", f"{survey.skipped:,} skipped"]
     if survey.kind == "tm":
@@ -116,42 +111,42 @@ def facts_of(it: Recording) -> List[Tuple[str, str]]:
 
 
 def pictured(it: Recording, ident: str) -> str:
-    """The picture of a recording."""
     picture = Picture(it.survey, ident, heading=False)
     drawn = figure(f"Picture of {it.name}", picture.draw(), picture.keys())
     return drawn + (paragraph(picture.note(), "note") if picture.note() else "")
 
 
 def tables(it: Recording, level: int) -> List[str]:
-    """The tables of a recording."""
-    if it.survey.frames == it.survey.skipped:
-        parts = [heading(level, "Channels"), paragraph("No frame is read.")]
-    elif it.survey.kind == "tm":
-        parts = [heading(level, "Channels"), *channels_tm(it.survey)]
-        if it.survey.reports:
-            parts += [heading(level, "CLCWs in the downlink"), *clcws(it.survey)]
+    survey, parts = it.survey, [heading(level, "Channels")]
+    if survey.frames == survey.skipped:
+        parts.append(paragraph("No frame is read."))
+    elif survey.kind == "tm":
+        parts += channels_tm(survey)
+        parts += [heading(level, "CLCWs in the downlink"), *clcws(survey)] if survey.reports else []
     else:
-        parts = [heading(level, "Channels"), channels_tc(it.survey)]
-        parts += [heading(level, "FARM-1 at the end of the uplink"), farms(it.survey), *lockouts(it.survey)]
+        parts += [channels_tc(survey), heading(level, "FARM-1 at the end of the uplink"), farms(survey),
+                  *lockouts(survey)]
     parts += [heading(level, "Packets"), *packets(it.tally)]
-    return parts + [heading(level, "What check reports"), *checked(it.survey)]
+    return parts + [heading(level, "What check reports"), *checked(survey)]
+
+
+def kinds_of(survey: Survey) -> List[Tuple[int, Counter[str]]]:
+    """The virtual channels, each with its frames by what they are."""
+    return [(vc, Counter(survey.of_row(vc))) for vc in survey.rows() if vc != NOT_READ]
 
 
 def channels_tm(survey: Survey) -> List[str]:
-    """The virtual channels of a downlink."""
-    losses = ["Counts missing", "Packets dropped"]
-    table = Table("Channels", ["Virtual channel", "Frames", "Counts missing", "Gaps", "Packets dropped", "With packets",
-                               "Only idle data", "Opaque", "Incomplete at the end"], losses)
-    for row in (row for row in survey.rows() if row < 64):
-        kinds, gaps = survey.of_row(row), survey.gaps.get(row)
-        table.rows.append([row, sum(kinds.values()), gaps.lost if gaps else 0, gaps.number if gaps else 0,
-                           marked(survey, row, "dropped"), kinds.get("first", 0) + kinds.get("none", 0),
-                           kinds.get("idle", 0), kinds.get("opaque", 0), marked(survey, row, "open")])
-    table.sum_up()
-    parts = [table.html()]
-    again = sum(gaps.of_255 for gaps in survey.gaps.values())
+    rows = []
+    for vc, kinds in kinds_of(survey):
+        gaps = survey.gaps.get(vc, Gaps())
+        rows.append([vc, sum(kinds.values()), gaps.lost, gaps.number, marked(survey, vc, "dropped"),
+                     kinds["first"] + kinds["none"], kinds["idle"], kinds["opaque"], marked(survey, vc, "open")])
+    parts = [Table("Channels", ["Virtual channel", "Frames", "!Counts missing", "Gaps", "!Packets dropped",
+                                "With packets", "Only idle data", "Opaque", "Incomplete at the end"],
+                   rows).summed().html()]
     if survey.gaps:
         parts.append(paragraph(MISSING + damaged_said(survey), "note"))
+    again = sum(gaps.of_255 for gaps in survey.gaps.values())
     if again:
         words = "1 gap is" if again == 1 else f"{again:,} gaps are"
         parts.append(paragraph(f"{words} of 255 frames: either these were lost, or the frame before came once more.",
@@ -175,39 +170,33 @@ def marked(survey: Survey, row: int, what: str) -> int:
 
 
 def channels_tc(survey: Survey) -> str:
-    """The virtual channels of an uplink."""
-    names = {"accept": "Accepted, type AD", "bypass": "Accepted, type BD", "command": "Commands", "early": "Early",
-             "late": "Late", "outside": "Outside", "refused": "Refused"}
-    table = Table("Channels", ["Virtual channel", "Frames", *names.values()], [*names.values()][3:])
-    for row in (row for row in survey.rows() if row < 64):
-        kinds = survey.of_row(row)
-        table.rows.append([row, sum(kinds.values()), *(kinds.get(what, 0) for what in names)])
-    table.sum_up()
-    return table.html()
+    heads = {"accept": "Accepted, type AD", "bypass": "Accepted, type BD", "command": "Commands", "early": "!Early",
+             "late": "!Late", "outside": "!Outside", "refused": "!Refused"}
+    rows = [[vc, sum(kinds.values()), *(kinds[what] for what in heads)] for vc, kinds in kinds_of(survey)]
+    return Table("Channels", ["Virtual channel", "Frames", *heads.values()], rows).summed().html()
 
 
 def farms(survey: Survey) -> str:
     """The state of each FARM-1 at the end."""
-    table = Table("FARM-1", ["Virtual channel", "V(R)", "Lockout flag", "Retransmit flag", "FARM-B counter", "CLCW",
-                             "Lockouts"], ["Lockout flag", "Retransmit flag", "Lockouts"], ["V(R)", "FARM-B counter"])
-    for vc, digits in sorted(survey.farms.items()):
-        word = int(digits, 16)
-        flags = word >> 13 & 1, word >> 11 & 1
-        table.rows.append([vc, word & 255, *flags, word >> 9 & 3, digits, survey.lockouts_of[vc]])
-    return table.html()
+    words = [(vc, digits, int(digits, 16)) for vc, digits in sorted(survey.farms.items())]
+    return Table("FARM-1", ["Virtual channel", "#V(R)", "!Lockout flag", "!Retransmit flag", "#FARM-B counter", "CLCW",
+                            "!Lockouts"],
+                 [[vc, word & 255, word >> 13 & 1, word >> 11 & 1, word >> 9 & 3, digits, survey.lockouts_of[vc]]
+                  for vc, digits, word in words]).html()
 
 
 def lockouts(survey: Survey) -> List[str]:
-    """The lockouts of an uplink."""
     if not survey.lockouts:
         return []
-    table = Table("Lockouts", ["Virtual channel", "Begins at offset", "by N(S)", "Ends at offset", "Frames refused"],
-                  names=["Begins at offset", "Ends at offset"])
-    for it in survey.lockouts:
-        table.rows.append([it.vc, it.start, it.number, "not ended" if it.end is None else it.end, it.refused])
-    number = sum(survey.lockouts_of.values())
-    first = f"The first {MOST_LOCKOUTS:,} of " if number > MOST_LOCKOUTS else ""
-    return [folded(first + number_of(number, "lockout"), table.html())]
+    table = Table("Lockouts", ["Virtual channel", "#Begins at offset", "by N(S)", "#Ends at offset", "Frames refused"],
+                  [[it.vc, it.start, it.number, "not ended" if it.end is None else it.end, it.refused]
+                   for it in survey.lockouts])
+    return [folded(first_of(MOST_LOCKOUTS, sum(survey.lockouts_of.values()), "lockout"), table.html())]
+
+
+def first_of(most: int, number: int, what: str) -> str:
+    """How many there are, of which at most so many are shown."""
+    return (f"The first {most:,} of " if number > most else "") + number_of(number, what)
 
 
 def clcws(survey: Survey) -> List[str]:
@@ -227,25 +216,20 @@ def clcws(survey: Survey) -> List[str]:
 
 
 def clcws_of(reports: Sequence[Tuple[Tuple[int, int], Reports]]) -> Table:
-    """A table of CLCWs."""
-    table = Table("CLCWs", ["Virtual channel", "of TC channel", "CLCWs", "First V(R)", "Last V(R)", *FLAGS.values()],
-                  [*FLAGS.values()], ["of TC channel", "First V(R)", "Last V(R)"])
-    for (vc, link_vc), it in reports:
-        table.rows.append([vc, link_vc, it.number, it.first & 255, it.last & 255, *map(it.having, FLAGS)])
-    return table
+    return Table("CLCWs", ["Virtual channel", "#of TC channel", "CLCWs", "#First V(R)", "#Last V(R)",
+                           *(f"!{name}" for name in FLAGS.values())],
+                 [[vc, link_vc, it.number, it.first & 255, it.last & 255, *map(it.having, FLAGS)]
+                  for (vc, link_vc), it in reports])
 
 
 def packets(tally: Tally) -> List[str]:
-    """The packets by channel and APID."""
     if not tally.counts:
         return [paragraph("No packet is delivered.")]
     with_map = tally.kind == "tc"
-    losses = ["Jumps", "Missing by the counts"]
-    heads = ["Virtual channel", *["MAP"] * with_map, "APID", "Packets", *losses, "Octets", "First count", "Last count"]
-    table = Table("Packets", heads, losses, ["MAP", "APID", "First count", "Last count"])
-    for key, it in [*sorted(tally.counts.items()), ((0, 0, 0), tally.others)]:
-        table.rows.append([*columns(key, with_map), it.packets, it.jumps, it.missing, it.octets, it.first, it.last])
-    table.sum_up()
+    table = Table("Packets", ["Virtual channel", *["#MAP"] * with_map, "#APID", "Packets", "!Jumps",
+                              "!Missing by the counts", "Octets", "#First count", "#Last count"],
+                  [[*columns(key, with_map), it.packets, it.jumps, it.missing, it.octets, it.first, it.last]
+                   for key, it in [*sorted(tally.counts.items()), ((0, 0, 0), tally.others)]]).summed()
     table.rows.pop()                                      # the others
     table.left = tally.left
     several = len({apid for _, _, apid in tally.counts}) < len(tally.counts)
@@ -253,27 +237,23 @@ def packets(tally: Tally) -> List[str]:
 
 
 def columns(key: Key, with_map: bool) -> List[int]:
-    """A channel and an APID as columns."""
     vc, map_id, apid = key
     return [vc, map_id, apid] if with_map else [vc, apid]
 
 
 def checked(survey: Survey) -> List[str]:
-    """What `check` reports."""
     number = sum(survey.anomalies.values())
     if not number:
         return [paragraph("Nothing: no anomaly.")]
-    table = Table("Lines of check", ["Line", "Number", "Meaning"], words=["Line", "Meaning"])
     lines = {f"skip {reason}": times for reason, times in survey.reasons.items()}
     lines.update((what, times) for what, times in survey.anomalies.items() if what != "skip")
-    for what, times in sorted(lines.items(), key=lambda it: -it[1]):
-        table.rows.append([what, times, meaning_of(what, survey.kind)])
-    first = f"The first {MOST_LINES:,} of " if number > MOST_LINES else ""
-    return [table.html(), folded(first + number_of(number, "line"), listing(survey.first_lines))]
+    table = Table("Lines of check", ["<Line", "Number", "<Meaning"],
+                  [[what, times, meaning_of(what, survey.kind)]
+                   for what, times in sorted(lines.items(), key=lambda it: -it[1])])
+    return [table.html(), folded(first_of(MOST_LINES, number, "line"), listing(survey.first_lines))]
 
 
 def lacked(one: Recording, other: Recording, lacks: Lacks) -> List[str]:
-    """What each of two recordings lacks."""
     parts = [heading(2, "What each recording lacks")]
     if lacks.same:
         return parts + [paragraph("Nothing: on each channel both have the same packets in the same order."
@@ -294,14 +274,11 @@ def differing(one: Recording, other: Recording, lacks: Lacks) -> Table:
     """The APIDs where one recording lacks packets."""
     with_map = one.survey.kind == "tc"
     names = [shortened(it.name) for it in (one, other)]
-    last = [f"Lacked by {name}" for name in names]
-    heads = ["Virtual channel", *["MAP"] * with_map, "APID", *(f"Packets in {name}" for name in names), *last]
-    table = Table("APIDs with missing packets", heads, last, ["MAP", "APID"])
-    for key, (here, there, moved) in sorted(lacks.each.items()):
-        if here > moved or there > moved:
-            table.rows.append([*columns(key, with_map), one.tally.of(key), other.tally.of(key), there - moved,
-                               here - moved])
-    return table
+    return Table("APIDs with missing packets",
+                 ["Virtual channel", *["#MAP"] * with_map, "#APID", *(f"Packets in {name}" for name in names),
+                  *(f"!Lacked by {name}" for name in names)],
+                 [[*columns(key, with_map), one.tally.of(key), other.tally.of(key), there - moved, here - moved]
+                  for key, (here, there, moved) in sorted(lacks.each.items()) if here > moved or there > moved])
 
 
 def shortened(name: str) -> str:

@@ -22,7 +22,6 @@ Channel = Tuple[int, int]                                 # version and spacecra
 
 
 def many(number: int, word: str) -> str:
-    """A number and a noun."""
     return f"{number} {word}" if number == 1 else f"{number} {word}s"
 
 
@@ -37,12 +36,10 @@ def sequence(taps: Sequence[int], octets: int) -> bytes:
 
 
 def randomiser() -> bytes:
-    """The sequence that randomises TM frames."""
     return (sequence((1, 3, 5, 8), 255) * 9)[:LONGEST + 16]
 
 
 def tc_randomiser() -> bytes:
-    """The sequence that randomises TC frames."""
     return (sequence((2, 4, 5, 6, 7, 8), 255) * 5)[:LONGEST_TC]
 
 
@@ -209,7 +206,6 @@ def hardly_right(right: int, number: int, part: float = 0.02) -> bool:
 
 
 def right_fields(frames: Iterable[bytes]) -> int:
-    """How many frames have a right error control field."""
     return sum(not crc_hqx(frame, 0xFFFF) for frame in frames)
 
 

@@ -10,12 +10,10 @@ def width(words: str, size: float) -> float:
 
 def text(x: float, y: float, words: str, *, anchor: str = "start", size: int = 12, weight: str = "",
          kind: str = "") -> str:
-    """Words at a place."""
     more = (f' class="{kind}"' if kind else "") + (f' text-anchor="{anchor}"' if anchor != "start" else "")
     more += f' font-weight="{weight}"' if weight else ""
     return f'<text x="{x:.1f}" y="{y:.1f}" font-size="{size}"{more}>{escape(words)}</text>'
 
 
 def box(x: float, y: float, wide: float, high: float, kind: str) -> str:
-    """A rectangle of a class."""
     return f'<rect x="{x:.1f}" y="{y:.1f}" width="{wide:.1f}" height="{high:.1f}" class="{kind}"/>'

@@ -83,7 +83,6 @@ def farm_said(survey: Survey) -> List[str]:
 
 
 def said_of_two(one: Any, other: Any, lacks: Lacks) -> str:
-    """Two recordings in a sentence."""
     here, there = one.tally.packets(), other.tally.packets()
     if not here + there:
         return "Neither recording delivers a packet."

@@ -13,7 +13,6 @@ has to ask about each of them, by the question that --allow options answers; and
 It counts each recording with such options. The program is $SLLINK. Counts and status: counts.py.
 """
 
-import argparse
 import contextlib
 import io
 import os
@@ -26,6 +25,7 @@ HERE = os.path.dirname(os.path.realpath(__file__))
 sys.path[:0] = [HERE, os.path.join(HERE, "../../python")]
 import passes
 from counts import finish, ok
+from recordings import write
 from sllink import _questions, tool
 from sllink._compare import command
 
@@ -34,31 +34,27 @@ WHOLE = 10                                                # frames from which on
 
 
 class Pass:
-    """One of the recordings."""
-
     def __init__(self, number):
         chance = random.Random(number)
         self.number, self.chance, self.kind = number, chance, ("tm", "tc")[number % 2]
         self.scid, self.field = chance.randrange(1024), chance.random() < 0.5
         self.length = chance.choice((chance.randint(32, 2048), chance.randint(32, 300), 223, 892, 1115, 1784))
-        self.words = [self.kind, "--seed", number, "--frames", int(2 * 1000 ** chance.random()),
-                      "--channels", chance.randint(1, 8), "--octets", chance.choice((20, 120, 400)),
-                      "--scid", self.scid, "--lose", chance.choice((0, 100 * chance.random())), "--run", chance.choice((1, 1, 3)),
-                      "--errors", chance.choice((0, 100 * chance.random()))]
-        self.words += ["--length", self.length] if self.kind == "tm" else []
-        self.words += [] if self.field else ["--no-field"]
+        words = {"seed": number, "frames": int(2 * 1000 ** chance.random()), "channels": chance.randint(1, 8),
+                 "octets": chance.choice((20, 120, 400)), "scid": self.scid,
+                 "lose": chance.choice((0, 100 * chance.random())), "run": chance.choice((1, 1, 3)),
+                 "errors": chance.choice((0, 100 * chance.random())), "length": self.length}
+        self.words = [self.kind, *(f"--{name}={it}" for name, it in words.items()), *["--no-field"] * (not self.field)]
         self.frames = self.made()
 
     def made(self, *more):
         """The frames, as further words of the generator have them."""
-        return list(passes.recorded(passes.parsed([str(word) for word in (*self.words, *more)])))
+        return list(passes.recorded(passes.parsed([*self.words, *more])))
 
     def options(self, scid=None, field=None, length=None):
         """The words of its options, or of wrong ones."""
         scid, field = self.scid if scid is None else scid, self.field if field is None else field
-        length = [f"--{self.kind}-length", str(length)] if length else (
-            ["--tm-length", str(self.length)] if self.kind == "tm" else [])
-        return ["--scid", str(scid), *length, *([f"--{self.kind}-fecf"] if field else [])]
+        length = length or (self.length if self.kind == "tm" else 1024)
+        return [f"--scid={scid}", f"--{self.kind}-length={length}", *[f"--{self.kind}-fecf"] * field]
 
     def cases(self):
         """Frames and options, each with what they are, and whether an option is wrong."""
@@ -81,8 +77,7 @@ class Pass:
 
 def asks(kind, frames, options, name):
     """Whether the tool asks about options, where it compares a recording with itself."""
-    with open(name, "wb") as file:
-        file.write(b"".join(frames))
+    write(name, b"".join(frames))
     try:
         with contextlib.redirect_stdout(io.StringIO()):
             command.main([kind, name, name, *options])
@@ -91,18 +86,14 @@ def asks(kind, frames, options, name):
     return False
 
 
-def main():
-    """Tries the recordings."""
-    parser = argparse.ArgumentParser()
-    parser.add_argument("--all", action="store_true")
-    parser.add_argument("seed", nargs="?", type=int, default=1)
-    words = parser.parse_args()
+def main(words):
     # What sllink-identify says is left out, which would take long.
     _questions.command_of = _questions.identified = lambda recording: ""
     tried, numbers = {True: 0, False: 0}, range(RECORDINGS)
-    if not words.all:
-        print("passes, seed", words.seed)
-        numbers = sorted(random.Random(words.seed).sample(numbers, EACH_TIME))
+    if words[:1] != ["--all"]:
+        seed = int(words[0]) if words else 1
+        print("passes, seed", seed)
+        numbers = sorted(random.Random(seed).sample(numbers, EACH_TIME))
     with tempfile.TemporaryDirectory() as folder:
         for it in map(Pass, numbers):
             for what, frames, options, wrong in it.cases():
@@ -112,10 +103,10 @@ def main():
                 tried[wrong] += 1
                 ok(asked == wrong,
                    f"recording {it.number}, {len(frames)} frames, {what}: it {'asks' if asked else 'asks nothing'}: "
-                   f"{' '.join(map(str, it.words))}; {' '.join(options)}")
+                   f"{' '.join(it.words)}; {' '.join(options)}")
     print(f"{len(numbers)} recordings: {tried[True]} wrong options with ten frames or more, {tried[False]} times all are right")
     return finish()
 
 
 if __name__ == "__main__":
-    sys.exit(main())
+    sys.exit(main(sys.argv[1:]))

@@ -3,6 +3,8 @@
 import ctypes
 from typing import Any, List, Tuple
 
+from ._options import Options
+
 
 class Managed(ctypes.Structure):
     """sllink_managed."""
@@ -48,7 +50,8 @@ def same_of(call: Any, managed: Managed, one: bytes, other: bytes) -> Tuple[int,
     return answer, same.value
 
 
-def managed_of(numbers: Any, starts: List[int], plain: List[bool]) -> Managed:
-    """Managed parameters, by the options that are numbers and flags."""
-    return Managed(numbers.scid, numbers.tm_length, numbers.tc_length, numbers.tm_fecf, numbers.tc_fecf, numbers.window,
-                   (ctypes.c_uint8 * 64)(*starts), (ctypes.c_bool * 64)(*plain), numbers.limit)
+def managed_of(of: Options) -> Managed:
+    """Options as the library has them."""
+    starts = (ctypes.c_uint8 * 64)(*(of.vr_of.get(vc, of.vr) for vc in range(64)))
+    plain = (ctypes.c_bool * 64)(*(vc in of.plain for vc in range(64)))
+    return Managed(of.scid, of.tm_length, of.tc_length, of.tm_fecf, of.tc_fecf, of.window, starts, plain, of.limit)

@@ -64,12 +64,9 @@ class Library:
         return call
 
     def _managed(self, options: Words) -> Any:
-        """The options as the library has them."""
         if not isinstance(options, Options):
             raise TypeError("the options of a library are an Options")
-        options = replace(options)                           # refused again where its mapping has changed
-        starts = [options.vr_of.get(vc, options.vr) for vc in range(64)]
-        return self._as_c.managed_of(options, starts, [vc in options.plain for vc in range(64)])
+        return self._as_c.managed_of(replace(options))       # refused again where its mapping has changed
 
 
 def _require(answer: int) -> None:

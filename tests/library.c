@@ -80,8 +80,7 @@ static void fill(uint8_t *octets, size_t length) {
 static uint16_t field_of(const uint8_t *octets, size_t length) {
     uint16_t register_ = 0xFFFF;
     for (size_t i = 0; i < 8 * length; i++) {
-        int bit = octets[i / 8] >> (7 - i % 8) & 1;
-        int out = register_ >> 15 ^ bit;
+        int out = register_ >> 15 ^ (octets[i / 8] >> (7 - i % 8) & 1);
         register_ = (uint16_t)(register_ << 1 ^ (out ? 0x1021 : 0));
     }
     return register_;
@@ -137,23 +136,21 @@ static unsigned bits(const uint8_t *octets, unsigned from, unsigned width) {
     static void name(void) {                                                                       \
         sllink_answer (*write)(const sllink_##name *, uint8_t *) = sllink_##name##_write;          \
         for (int round = 0; round < 300; round++) {                                                \
-            uint8_t *octets = block_of(NULL, size), *again = block_of(NULL, size), before[size];   \
+            uint8_t *octets = block_of(NULL, size), *again = block_of(NULL, size);                 \
             unsigned from = 0;                                                                     \
             fill(octets, size);                                                                    \
             if (round < 2)                                                                         \
                 memset(octets, round ? 0xFF : 0, size);                                            \
-            sllink_##name h;                                                                       \
-            memset(&h, 0, sizeof h);                                                               \
+            sllink_##name h = {0};                                                                 \
             sllink_##name##_read(octets, &h);                                                      \
             FIELDS(IS, IS)                                                                         \
             CHECK(from == 8 * size);                                                               \
             memset(again, 0xA5, size);                                                             \
             CHECK(write(&h, again) == SLLINK_DONE);                                                \
             CHECK(memcmp(again, octets, size) == 0);                                               \
-            memcpy(before, again, size);                                                           \
             sllink_##name kept = h;                                                                \
             FIELDS(IS_REFUSED, NOTHING)                                                            \
-            CHECK(memcmp(again, before, size) == 0);                                               \
+            CHECK(memcmp(again, octets, size) == 0);                                               \
             free(octets);                                                                          \
             free(again);                                                                           \
         }                                                                                          \
@@ -175,11 +172,13 @@ static unsigned bits(const uint8_t *octets, unsigned from, unsigned width) {
     NARROW(spare, 2) WHOLE(no_rf, 1) WHOLE(no_lock, 1) WHOLE(lockout, 1) WHOLE(wait, 1)            \
     WHOLE(retransmit, 1) NARROW(farm_b, 2) WHOLE(spare_end, 1) WHOLE(report, 8)
 
-HEADER(tm_header, 6, TM_HEADER)
-HEADER(tc_header, 5, TC_HEADER)
-HEADER(segment_header, 1, SEGMENT_HEADER)
-HEADER(packet_header, 6, PACKET_HEADER)
-HEADER(clcw, 4, CLCW)
+#define HEADERS(EACH)                                                                              \
+    EACH(tm_header, 6, TM_HEADER)                                                                  \
+    EACH(tc_header, 5, TC_HEADER)                                                                  \
+    EACH(segment_header, 1, SEGMENT_HEADER)                                                        \
+    EACH(packet_header, 6, PACKET_HEADER)                                                          \
+    EACH(clcw, 4, CLCW)
+HEADERS(HEADER)
 
 /* ---- FARM-1 ---- */
 
@@ -278,6 +277,11 @@ static void farm(void) {
 
 /* ---- recordings ---- */
 
+typedef struct octets {
+    uint8_t *at;
+    size_t length;
+} octets;
+
 typedef sllink_answer engine(const sllink_managed *, const uint8_t *, size_t, uint8_t *, size_t,
                              size_t *, sllink_totals *);
 
@@ -291,10 +295,18 @@ static const struct {
 
 enum { ENGINES = sizeof engines / sizeof *engines, KEPT = 0xA5 };
 
-static const sllink_totals no_totals = {9, 9, 9, 9, 9, 9, 9};
+/* What a call answers; its room, whose octets are the caller's to free; and the size and totals. */
+typedef struct answered {
+    sllink_answer answer;
+    uint8_t *text;
+    size_t size;
+    sllink_totals totals;
+} answered;
 
-static bool same_totals(const sllink_totals *a, const sllink_totals *b) {
-    return memcmp(a, b, sizeof *a) == 0;
+static const answered nothing_yet = {.size = 12345, .totals = {9, 9, 9, 9, 9, 9, 9}};
+
+static bool same_numbers(const answered *a, const answered *b) {
+    return a->size == b->size && memcmp(&a->totals, &b->totals, sizeof a->totals) == 0;
 }
 
 /* Whether all these octets are as they were. */
@@ -305,60 +317,45 @@ static bool are_kept(const uint8_t *octets, size_t length) {
     return true;
 }
 
-/* A call with `room` octets of room, which are all looked at. The text, if there is one, is the
- * caller's to free. */
-static sllink_answer called(engine *call, const sllink_managed *managed, const uint8_t *recording,
-                            size_t length, size_t room, uint8_t **text, size_t *size,
-                            sllink_totals *totals) {
-    uint8_t *output = block_of(NULL, room);
-    memset(output, KEPT, room);
-    *size = 12345;
-    *totals = no_totals;
-    sllink_answer answer = call(managed, recording, length, output, room, size, totals);
-    if (answer == SLLINK_DONE || answer == SLLINK_ROOM) {
-        CHECK(answer == (*size <= room ? SLLINK_DONE : SLLINK_ROOM));
-        if (*size < room)
-            CHECK(are_kept(output + *size, room - *size));
-        CHECK(totals->octets == length);
+/* A call with `room` octets of room, which are all looked at. */
+static answered called(engine *call, const sllink_managed *managed, octets of, size_t room) {
+    answered it = nothing_yet;
+    it.text = block_of(NULL, room);
+    memset(it.text, KEPT, room);
+    it.answer = call(managed, of.at, of.length, it.text, room, &it.size, &it.totals);
+    if (it.answer == SLLINK_DONE || it.answer == SLLINK_ROOM) {
+        CHECK(it.answer == (it.size <= room ? SLLINK_DONE : SLLINK_ROOM));
+        CHECK(it.size >= room || are_kept(it.text + it.size, room - it.size));
+        CHECK(it.totals.octets == of.length);
     } else {
-        CHECK(are_kept(output, room) && *size == 12345 && same_totals(totals, &no_totals));
+        CHECK(are_kept(it.text, room) && same_numbers(&it, &nothing_yet));
     }
-    *text = output;
-    return answer;
+    return it;
 }
 
-/* The text of a recording: a call with no room, one with enough, and around that. */
-static uint8_t *text_of(engine *call, const sllink_managed *managed, const uint8_t *recording,
-                        size_t length, size_t *size) {
-    uint8_t *none, *text;
-    sllink_totals first, totals;
-    sllink_answer answer = called(call, managed, recording, length, 0, &none, size, &first);
-    free(none);
-    if (answer != SLLINK_ROOM && answer != SLLINK_DONE)
-        return NULL;
-    size_t whole = *size;
-    CHECK(called(call, managed, recording, length, whole, &text, size, &totals) == SLLINK_DONE);
-    CHECK(*size == whole && same_totals(&first, &totals));
-    for (size_t room = whole > 1 ? whole - 1 : 0; room <= whole + 2; room++) {
-        uint8_t *other;
-        called(call, managed, recording, length, room, &other, size, &totals);
-        CHECK(*size == whole && same_totals(&first, &totals));
-        CHECK(memcmp(other, text, room < whole ? room : whole) == 0);
-        free(other);
+/* The text of a recording, if it has one: a call with no room, one with enough, and around that. */
+static octets text_of(engine *call, const sllink_managed *managed, octets of) {
+    answered none = called(call, managed, of, 0), whole;
+    free(none.text);
+    if (none.answer != SLLINK_ROOM && none.answer != SLLINK_DONE)
+        return (octets){NULL, 0};
+    whole = called(call, managed, of, none.size);
+    CHECK(whole.answer == SLLINK_DONE && same_numbers(&none, &whole));
+    for (size_t room = none.size > 1 ? none.size - 1 : 0; room <= none.size + 2; room++) {
+        answered other = called(call, managed, of, room);
+        CHECK(same_numbers(&none, &other));
+        CHECK(memcmp(other.text, whole.text, room < none.size ? room : none.size) == 0);
+        free(other.text);
     }
-    *size = whole;
-    return text;
+    return (octets){whole.text, none.size};
 }
 
 static sllink_managed managed_of(int spacecraft, int tm, int tc, int window, uint64_t limit) {
-    sllink_managed managed;
-    memset(&managed, 0, sizeof managed);
-    managed.spacecraft = (uint16_t)spacecraft;
-    managed.tm_length = (uint16_t)tm;
-    managed.tc_length = (uint16_t)tc;
-    managed.window = (uint8_t)window;
-    managed.limit = limit;
-    return managed;
+    return (sllink_managed){.spacecraft = (uint16_t)spacecraft,
+                            .tm_length = (uint16_t)tm,
+                            .tc_length = (uint16_t)tc,
+                            .window = (uint8_t)window,
+                            .limit = limit};
 }
 
 static sllink_managed usual(void) {
@@ -391,30 +388,30 @@ static void recordings(void) {
     };
     for (int i = 0; i < ENGINES; i++) {
         engine *call = engines[i].call;
-        size_t size, least = strcmp(engines[i].kind, "tm") == 0 ? 32 : SIZE_MAX;
+        size_t least = strcmp(engines[i].kind, "tm") == 0 ? 32 : SIZE_MAX;
         sllink_managed managed = usual();
-        sllink_totals totals;
         for (size_t length = 0; length < 200; length += length < 70 ? 1 : 29) {
-            uint8_t *recording = block_of(NULL, length), *text;
+            octets of = {block_of(NULL, length), length}, text;
             for (size_t j = 0; j + 32 <= length; j += 32)
-                frame(recording + j, (uint8_t)(j / 32));
-            memset(recording + length / 32 * 32, 0, length % 32);
-            text = text_of(call, &managed, recording, length, &size);
-            CHECK(text != NULL && (length < least || size > 0));
-            CHECK(length > 0 || size == (strcmp(engines[i].verb, "check") == 0 ? 48u : 0u));
-            free(text);
-            free(recording);
+                frame(of.at + j, (uint8_t)(j / 32));
+            memset(of.at + length / 32 * 32, 0, length % 32);
+            text = text_of(call, &managed, of);
+            CHECK(text.at != NULL && (length < least || text.length > 0));
+            CHECK(length > 0 || text.length == (strcmp(engines[i].verb, "check") == 0 ? 48u : 0u));
+            free(text.at);
+            free(of.at);
         }
         for (size_t j = 0; j < sizeof tried / sizeof *tried; j++) {
-            uint8_t *zeros = block_of("\0\0\0\0\0\0\0\0", 9), *text;
+            octets zeros = {block_of("\0\0\0\0\0\0\0\0", 9), 9}, text;
             managed = managed_of(tried[j].spacecraft, tried[j].tm, tried[j].tc, tried[j].window,
                                  tried[j].limit);
-            CHECK(called(call, &managed, zeros, 9, 100, &text, &size, &totals) == tried[j].answer);
-            free(text);
-            text = text_of(call, &managed, zeros, 9, &size);
-            CHECK((text != NULL) == (tried[j].answer == SLLINK_DONE));
-            free(text);
-            free(zeros);
+            answered it = called(call, &managed, zeros, 100);
+            CHECK(it.answer == tried[j].answer);
+            free(it.text);
+            text = text_of(call, &managed, zeros);
+            CHECK((text.at != NULL) == (tried[j].answer == SLLINK_DONE));
+            free(text.at);
+            free(zeros.at);
         }
     }
 }
@@ -422,48 +419,50 @@ static void recordings(void) {
 typedef sllink_answer comparison(const sllink_managed *, const uint8_t *, size_t, const uint8_t *,
                                  size_t, bool *);
 
+/* Whether two recordings are compared with this answer, where `same` is `was` before and `is`
+ * then. */
+static bool compares(comparison *call, sllink_managed managed, octets a, octets b, bool was,
+                     sllink_answer answer, bool is) {
+    bool same = was;
+    return call(&managed, a.at, a.length, b.at, b.length, &same) == answer && same == is;
+}
+
 static void same_packets(void) {
-    uint8_t octets[96], other[64];
+    static const struct {
+        int spacecraft;
+        uint64_t limit;
+        sllink_answer answer;
+    } refused[] = {{1, 95, SLLINK_TOO_LONG}, {1, 0, SLLINK_LIMIT}, {1024, 0, SLLINK_SPACECRAFT}};
+    comparison *calls[] = {sllink_same_packets_tm, sllink_same_packets_tc};
+    uint8_t frames[96], others[64];
+    octets three = {frames, 96}, two = {frames, 64}, one = {frames, 1}, none = {frames, 0};
+    octets other = {others, 64}, form;
     sllink_managed managed = usual();
     for (int i = 0; i < 3; i++)
-        frame(octets + 32 * i, (uint8_t)i);
-    frame(other, 0);
-    frame(other + 32, 9);
-    comparison *calls[] = {sllink_same_packets_tm, sllink_same_packets_tc};
+        frame(frames + 32 * i, (uint8_t)i);
+    frame(others, 0);
+    frame(others + 32, 9);
     for (int i = 0; i < 2; i++) {
-        bool same = false;
-        CHECK(calls[i](&managed, octets, 96, octets, 96, &same) == SLLINK_DONE && same);
-        same = false;
-        CHECK(calls[i](&managed, octets, 0, octets, 1, &same) == SLLINK_DONE && same);
+        CHECK(compares(calls[i], managed, three, three, false, SLLINK_DONE, true));
+        CHECK(compares(calls[i], managed, none, one, false, SLLINK_DONE, true));
         /* a refusal leaves it as it was, whatever that is */
-        for (int was = 0; was < 2; was++) {
-            managed.limit = 95;
-            same = was;
-            CHECK(calls[i](&managed, octets, 96, other, 64, &same) == SLLINK_TOO_LONG
-                  && same == was);
-            CHECK(calls[i](&managed, other, 64, octets, 96, &same) == SLLINK_TOO_LONG
-                  && same == was);
-            managed.limit = 0;
-            CHECK(calls[i](&managed, octets, 96, other, 64, &same) == SLLINK_LIMIT && same == was);
-            managed.spacecraft = 1024;
-            CHECK(calls[i](&managed, octets, 96, other, 64, &same) == SLLINK_SPACECRAFT
-                  && same == was);
-            managed = usual();
+        for (int j = 0; j < 6; j++) {
+            bool was = j % 2;
+            managed = managed_of(refused[j / 2].spacecraft, 32, 1024, 10, refused[j / 2].limit);
+            CHECK(compares(calls[i], managed, three, other, was, refused[j / 2].answer, was));
+            CHECK(compares(calls[i], managed, other, three, was, refused[j / 2].answer, was));
         }
+        managed = usual();
     }
-    bool same = true;
-    CHECK(sllink_same_packets_tm(&managed, octets, 96, octets, 64, &same) == SLLINK_DONE && !same);
-    same = true;
-    CHECK(sllink_same_packets_tm(&managed, octets, 64, other, 64, &same) == SLLINK_DONE && !same);
+    CHECK(compares(sllink_same_packets_tm, managed, three, two, true, SLLINK_DONE, false));
+    CHECK(compares(sllink_same_packets_tm, managed, two, other, true, SLLINK_DONE, false));
     /* the normal form of two packets has other counts than these frames */
-    uint8_t *form;
-    size_t size;
-    octets[2] = 77;
-    octets[34] = 99;
-    form = text_of(sllink_normalise_tm, &managed, octets, 64, &size);
-    CHECK(form != NULL && size == 64 && memcmp(form, octets, 64) != 0);
-    CHECK(sllink_same_packets_tm(&managed, octets, 64, form, size, &same) == SLLINK_DONE && same);
-    free(form);
+    frames[2] = 77;
+    frames[34] = 99;
+    form = text_of(sllink_normalise_tm, &managed, two);
+    CHECK(form.at != NULL && form.length == 64 && memcmp(form.at, frames, 64) != 0);
+    CHECK(compares(sllink_same_packets_tm, managed, two, form, false, SLLINK_DONE, true));
+    free(form.at);
 }
 
 /* ---- jobs ---- */
@@ -471,51 +470,49 @@ static void same_packets(void) {
 typedef struct job {
     char verb[16], kind[4], path[512], output[512];
     sllink_managed managed;
-    uint8_t *recording, *other;
-    size_t length, other_length;
+    octets recording, other;
     engine *call;
     comparison *compare;
 } job;
 
-static uint8_t *octets_of(const char *path, size_t *length) {
+static octets octets_of(const char *path) {
     FILE *file = fopen(path, "rb");
+    octets it;
     if (file == NULL || fseek(file, 0, SEEK_END) != 0) {
         perror(path);
         exit(2);
     }
-    *length = (size_t)ftell(file);
+    it.length = (size_t)ftell(file);
+    it.at = block_of(NULL, it.length);
     rewind(file);
-    uint8_t *octets = block_of(NULL, *length);
-    if (fread(octets, 1, *length, file) != *length)
+    if (fread(it.at, 1, it.length, file) != it.length)
         exit(2);
     fclose(file);
-    return octets;
+    return it;
 }
 
 static bool next_job(job *it) {
     char managed[512];
+    memset(it, 0, sizeof *it);
     if (scanf("%15s %3s %511s %511s %511s", it->verb, it->kind, managed, it->path, it->output) != 5)
         return false;
     CHECK(strlen(managed) == 2 * sizeof it->managed);
     for (size_t i = 0; i < sizeof it->managed; i++)
         CHECK(sscanf(managed + 2 * i, "%2hhx", (unsigned char *)&it->managed + i) == 1);
-    it->recording = octets_of(it->path, &it->length);
-    it->call = NULL;
-    it->compare = NULL;
-    it->other = NULL;
+    it->recording = octets_of(it->path);
     for (int i = 0; i < ENGINES; i++)
         if (strcmp(engines[i].verb, it->verb) == 0 && strcmp(engines[i].kind, it->kind) == 0)
             it->call = engines[i].call;
     if (it->call == NULL) {
         it->compare = strcmp(it->kind, "tm") == 0 ? sllink_same_packets_tm : sllink_same_packets_tc;
-        it->other = octets_of(it->output, &it->other_length);
+        it->other = octets_of(it->output);
     }
     return true;
 }
 
 static void end_job(job *it) {
-    free(it->recording);
-    free(it->other);
+    free(it->recording.at);
+    free(it->other.at);
 }
 
 /* What the call of a job answers; its text, if it has one, in so many octets of room. */
@@ -523,26 +520,26 @@ static sllink_answer answer_of(const job *it, uint8_t *text, size_t room, size_t
                                bool *same) {
     sllink_totals totals;
     if (it->compare != NULL)
-        return it->compare(&it->managed, it->recording, it->length, it->other, it->other_length,
-                           same);
-    return it->call(&it->managed, it->recording, it->length, text, room, size, &totals);
+        return it->compare(&it->managed, it->recording.at, it->recording.length, it->other.at,
+                           it->other.length, same);
+    return it->call(&it->managed, it->recording.at, it->recording.length, text, room, size,
+                    &totals);
 }
 
 static void jobs(void) {
     for (job it; next_job(&it); end_job(&it)) {
-        size_t size = 0;
         bool same = false;
         if (it.compare != NULL) {
             sllink_answer answer = answer_of(&it, NULL, 0, NULL, &same);
             printf("%s %s %d %s\n", it.path, it.output, (int)answer, same ? "same" : "other");
             continue;
         }
-        uint8_t *text = text_of(it.call, &it.managed, it.recording, it.length, &size);
+        octets text = text_of(it.call, &it.managed, it.recording);
         FILE *file = fopen(it.output, "wb");
-        if (file == NULL || text == NULL || fwrite(text, 1, size, file) != size
+        if (file == NULL || text.at == NULL || fwrite(text.at, 1, text.length, file) != text.length
             || fclose(file) != 0)
             complain(it.output, __LINE__);
-        free(text);
+        free(text.at);
     }
 }
 
@@ -551,30 +548,24 @@ static void jobs(void) {
 static void memory(void) {
     long refusals = 0;
     for (job it; next_job(&it); end_job(&it)) {
-        // Each of the first 31 allocations is refused, then every second one, and ever fewer of the later ones.
+        // Each of the first 31 allocations is refused, then every second one, and ever fewer of
+        // the later ones.
         for (long which = 1;; which += 1 + which / 32) {
-            sllink_answer answer;
+            bool same = which % 2;
+            answered done = nothing_yet;
             asked = 0;
             refused_one = which;
-            if (it.compare != NULL) {
-                bool same = which % 2;
-                answer = answer_of(&it, NULL, 0, NULL, &same);
-                if (answer != SLLINK_DONE)
-                    CHECK(same == which % 2);
-            } else {
-                uint8_t *text;
-                size_t size;
-                sllink_totals totals;
-                answer = called(it.call, &it.managed, it.recording, it.length, 1 << 20, &text,
-                                &size, &totals);
-                free(text);
-            }
+            if (it.compare != NULL)
+                done.answer = answer_of(&it, NULL, 0, NULL, &same);
+            else
+                done = called(it.call, &it.managed, it.recording, 1 << 20);
             refused_one = 0;
+            free(done.text);
             if (asked < which) {
-                CHECK(answer == SLLINK_DONE);
+                CHECK(done.answer == SLLINK_DONE);
                 break;
             }
-            CHECK(answer == SLLINK_MEMORY);
+            CHECK(done.answer == SLLINK_MEMORY && same == which % 2);
             refusals++;
         }
     }
@@ -593,8 +584,7 @@ static void *in_a_thread(void *number) {
     int *failed = number;
     sllink_farm f;
     sllink_verdict verdict;
-    if (sllink_farm_new(&f, 10, 0) != SLLINK_DONE)
-        ++*failed;
+    *failed += sllink_farm_new(&f, 10, 0) != SLLINK_DONE;
     for (int round = 0; round < ROUNDS; round++)
         for (size_t i = 0; i < count; i++) {
             const job *it = &all[i];
@@ -604,7 +594,7 @@ static void *in_a_thread(void *number) {
             bool same;
             *failed += answer_of(it, text, 1 << 16, &size, &same) != SLLINK_DONE;
             *failed += it->call != NULL
-                       && (size != it->other_length || memcmp(text, it->other, size) != 0);
+                       && (size != it->other.length || memcmp(text, it->other.at, size) != 0);
             *failed += sllink_farm_step(&f, SLLINK_AD, number, &verdict) != SLLINK_DONE;
             free(text);
         }
@@ -619,19 +609,15 @@ static void threads(void) {
         exit(2);
     while (count < 10000 && next_job(&all[count])) {
         job *it = &all[count++];
-        if (it->call != NULL) {
-            it->other =
-                text_of(it->call, &it->managed, it->recording, it->length, &it->other_length);
-            CHECK(it->other_length <= 1 << 16);
-        }
+        if (it->call != NULL)
+            it->other = text_of(it->call, &it->managed, it->recording);
+        CHECK(it->call == NULL || it->other.length <= 1 << 16);
     }
     CHECK(pthread_attr_init(&small) == 0 && pthread_attr_setstacksize(&small, STACK) == 0);
     for (int i = 0; i < THREADS; i++)
         CHECK(pthread_create(&them[i], &small, in_a_thread, &threads_failed[i]) == 0);
-    for (int i = 0; i < THREADS; i++) {
-        CHECK(pthread_join(them[i], NULL) == 0);
-        CHECK(threads_failed[i] == 0);
-    }
+    for (int i = 0; i < THREADS; i++)
+        CHECK(pthread_join(them[i], NULL) == 0 && threads_failed[i] == 0);
     pthread_attr_destroy(&small);
     for (size_t i = 0; i < count; i++)
         end_job(&all[i]);
@@ -666,10 +652,8 @@ static size_t touched(void *(*does)(void *), void *with) {
     if (stack == NULL)
         exit(2);
     memset(stack, KEPT, STACK);
-    CHECK(pthread_attr_init(&painted) == 0);
-    CHECK(pthread_attr_setstack(&painted, stack, STACK) == 0);
-    CHECK(pthread_create(&thread, &painted, below, &it) == 0);
-    CHECK(pthread_join(thread, NULL) == 0);
+    CHECK(pthread_attr_init(&painted) == 0 && pthread_attr_setstack(&painted, stack, STACK) == 0);
+    CHECK(pthread_create(&thread, &painted, below, &it) == 0 && pthread_join(thread, NULL) == 0);
     while (left < STACK && stack[left] == KEPT)
         left++;
     pthread_attr_destroy(&painted);
@@ -689,28 +673,19 @@ static void *the_job(void *with) {
     return answer_of(with, lent, sizeof lent, &size, &same) == SLLINK_DONE ? with : NULL;
 }
 
+#define READ_AND_WRITTEN(name, size, FIELDS)                                                       \
+    static sllink_##name a_##name;                                                                 \
+    sllink_##name##_read(lent, &a_##name);                                                         \
+    done |= sllink_##name##_write(&a_##name, lent);
+
 static void *other_calls(void *with) {
     static sllink_farm f;
     static sllink_verdict verdict;
-    static sllink_tm_header tm;
-    static sllink_tc_header tc;
-    static sllink_segment_header segment;
-    static sllink_packet_header packet;
-    static sllink_clcw word;
     unsigned done = sllink_farm_new(&f, 10, 0);
     done |= sllink_farm_clcw(&f, 63, lent);
     for (unsigned event = 0; event < 4; event++)
         done |= sllink_farm_step(&f, (sllink_event)event, 9, &verdict);
-    sllink_clcw_read(lent, &word);
-    done |= sllink_clcw_write(&word, lent);
-    sllink_tm_header_read(lent, &tm);
-    done |= sllink_tm_header_write(&tm, lent);
-    sllink_tc_header_read(lent, &tc);
-    done |= sllink_tc_header_write(&tc, lent);
-    sllink_segment_header_read(lent, &segment);
-    done |= sllink_segment_header_write(&segment, lent);
-    sllink_packet_header_read(lent, &packet);
-    done |= sllink_packet_header_write(&packet, lent);
+    HEADERS(READ_AND_WRITTEN)
     (void)(sllink_fecf(lent, sizeof lent) + sllink_fecf_good(lent, 77) + sllink_farm_vr(&f));
     return done == SLLINK_DONE ? with : NULL;
 }
@@ -720,14 +695,16 @@ static void stack(void) {
     size_t before = touched(nothing, NULL), most = 0, other = touched(other_calls, NULL) - before;
     for (job it; next_job(&it); end_job(&it)) {
         size_t found = touched(the_job, &it) - before;
-        CHECK(found <= RECORDINGS_STACK);
         most = found > most ? found : most;
     }
+    CHECK(most <= RECORDINGS_STACK);
     CHECK(other <= OTHER_STACK);
     printf("%zu octets of stack, other calls %zu\n", most, other);
 }
 
 /* ---- time ---- */
+
+static long rounds;
 
 static double now(void) {
     struct timespec it;
@@ -735,9 +712,9 @@ static double now(void) {
     return 1e6 * (double)it.tv_sec + 1e-3 * (double)it.tv_nsec;
 }
 
-static void times(long rounds) {
+static void times(void) {
     for (job it; next_job(&it); end_job(&it)) {
-        size_t room = 4 * it.length + (1 << 20), size;
+        size_t room = 4 * it.recording.length + (1 << 20), size;
         uint8_t *output = block_of(NULL, room);
         bool same;
         memset(output, 0, room);
@@ -748,18 +725,15 @@ static void times(long rounds) {
             double taken = now() - before;
             least = taken < least ? taken : least;
         }
-        printf("%s %s %zu octets %.1f us\n", it.verb, it.kind, it.length, least);
+        printf("%s %s %zu octets %.1f us\n", it.verb, it.kind, it.recording.length, least);
         free(output);
     }
 }
 
+#define CALL(name, size, FIELDS) name();
 static void calls(void) {
     error_control();
-    tm_header();
-    tc_header();
-    segment_header();
-    packet_header();
-    clcw();
+    HEADERS(CALL)
     farm();
     recordings();
     same_packets();
@@ -769,20 +743,14 @@ int main(int argc, char **argv) {
     static const struct {
         const char *name;
         void (*runs)(void);
-    } modes[] = {{"calls", calls},
-                 {"jobs", jobs},
-                 {"memory", memory},
-                 {"threads", threads},
-                 {"stack", stack}};
-    for (size_t i = 0; argc == 2 && i < sizeof modes / sizeof *modes; i++)
-        if (strcmp(argv[1], modes[i].name) == 0) {
+    } modes[] = {{"calls", calls},     {"jobs", jobs},   {"memory", memory},
+                 {"threads", threads}, {"stack", stack}, {"time", times}};
+    rounds = argc == 3 ? atol(argv[2]) : 0;
+    for (size_t i = 0; argc > 1 && i < sizeof modes / sizeof *modes; i++)
+        if (strcmp(argv[1], modes[i].name) == 0 && argc == 2 + (modes[i].runs == times)) {
             modes[i].runs();
             return failures > 0;
         }
-    if (argc == 3 && strcmp(argv[1], "time") == 0) {
-        times(atol(argv[2]));
-        return failures > 0;
-    }
     fprintf(stderr, "library: calls, jobs, memory, threads, stack, or time ROUNDS\n");
     return 2;
 }

@@ -144,8 +144,9 @@ wheel:
 	python/wheel "$(OUT)"
 	$(SUMS)
 
-# Nothing in the package says who built it, or where. Of the C library it wants the last version that the program names.
-# For its size a folder counts as a KiB, and a file as whole ones, which is the same on each file system.
+# Nothing in the package says who built it, or where. Debian's zsh has the completions of packages in a folder of its
+# own, and doesn't look into site-functions under /usr. Of the C library the package wants the last version that the
+# program names. For its size a folder counts as a KiB, and a file as whole ones, which is the same on each file system.
 MAINTAINER = unnamed <unnamed@invalid>
 LIBC = $(shell grep -a -h -o 'GLIBC_[0-9][0-9.]*' "$(PROGRAM)" $(wildcard $(LIBRARIES)/$(SONAME)) | sed 's/GLIBC_//' | sort -V | tail -n 1)
 SIZE = find "$(ROOM)/usr" -printf '%y %s\n' | awk '{ k += /^f/ ? int(($$2 + 1023) / 1024) : 1 } END { print k }'
@@ -155,7 +156,7 @@ DOC = $(ROOM)/usr/share/doc/sllink
 deb: built
 	command -v dpkg-deb > /dev/null || { echo "dpkg-deb isn't there; 'make dist' makes a tarball" >&2; exit 1; }
 	rm -rf "$(ROOM)" "$(ROOM).deb"
-	$(MAKE) -s install PREFIX=/usr DESTDIR="$(ROOM)"
+	$(MAKE) -s install PREFIX=/usr ZSH_COMPLETIONS=/usr/share/zsh/vendor-completions DESTDIR="$(ROOM)"
 	gzip -9n "$(ROOM)/usr/share/man/man1/"*.1
 	$(INSTALL) -d "$(ROOM)/DEBIAN" "$(ROOM)/usr/lib/python3/dist-packages" "$(DOC)"
 	ln -s ../../../share/sllink/python/sllink "$(ROOM)/usr/lib/python3/dist-packages/sllink"

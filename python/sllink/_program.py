@@ -31,7 +31,8 @@ def find_program(program: Path = None) -> str:
     or built in its repository."""
     if program is not None:
         return os.fspath(program)
-    return os.environ.get("SLLINK") or shutil.which("sllink") or (INSTALLED if os.path.exists(INSTALLED) else BUILT)
+    there = (it for it in (INSTALLED, BUILT) if os.path.exists(it))
+    return os.environ.get("SLLINK") or shutil.which("sllink") or next(there, "sllink")
 
 
 _known: Set[Tuple[int, ...]] = set()                         # programs that have answered as sllink

@@ -134,6 +134,16 @@ dist: built
 	rm -rf "$(OUT)/$(PACKED)" "$(OUT)/$(PACKED).tar.gz"
 	$(MAKE) -s install PREFIX= DESTDIR="$(OUT)/$(PACKED)"
 	python/wheel "$(OUT)/$(PACKED)" > /dev/null
+	cp CHANGELOG.md "$(OUT)/$(PACKED)"
+	printf '%s\n' "sllink, its tools, manual pages, completions and Python module. This folder may lie anywhere; bin and" \
+	  "share in it have to stay beside each other. The tools need Python 3.8 or later. With D for the folder's path:" "" \
+	  '    export PATH=D/bin:$$PATH                                     program, tools, manual pages' \
+	  '    export XDG_DATA_DIRS=D/share:/usr/local/share:/usr/share    completions for bash and fish' \
+	  '    fpath=(D/share/zsh/site-functions $$fpath)                   those for zsh, before compinit' \
+	  '    export PYTHONPATH=D/share/sllink/python                     the module, where pip has not installed the wheel' \
+	  '    export PKG_CONFIG_PATH=D/lib/pkgconfig LD_LIBRARY_PATH=D/lib    the library for C, where lib is there' "" \
+	  "CHANGELOG.md says what changed. No licence has been chosen for sllink yet. Ask whoever gave you this archive" \
+	  "what you may do with it." > "$(OUT)/$(PACKED)/README"
 	tar -C "$(OUT)" --sort=name --mtime="@$(SOURCE_DATE_EPOCH)" --mode=u=rwX,go=rX --owner=0 --group=0 --numeric-owner \
 	  -cf - "$(PACKED)" | gzip -9n > "$(OUT)/$(PACKED).tar.gz"
 	rm -rf "$(OUT)/$(PACKED)"

@@ -31,8 +31,8 @@ def find_program(program: Path = None) -> str:
     or built in its repository."""
     if program is not None:
         return os.fspath(program)
-    there = (it for it in (INSTALLED, BUILT) if os.path.exists(it))
-    return os.environ.get("SLLINK") or shutil.which("sllink") or next(there, "sllink")
+    there = [it for it in (INSTALLED, BUILT) if os.path.exists(it)]
+    return os.environ.get("SLLINK") or shutil.which("sllink") or [*there, "sllink"][0]
 
 
 _known: Set[Tuple[int, ...]] = set()                         # programs that have answered as sllink

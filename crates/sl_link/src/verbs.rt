@@ -131,7 +131,7 @@ fn list_into<F: Framer, V: Verb, R: Read, W: Write>(
         out.new.writer.now (F.frames_of managed.now) (V.listing managed.now)
         managed.now.max_octets (length buffer.old) (V.may_refuse_memory managed.now) result }
 {
-    // A copy, since what is proved of the sink speaks of parameters that are lent to it alone.
+    // A copy: the proof doesn't hold a reference that was lent across the call.
     let managed = *managed;
     let mut lister = Lister { verb, out };
     let octets = read_recording(&managed, framer, &mut lister, reader, buffer)?;

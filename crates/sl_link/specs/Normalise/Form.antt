@@ -6,7 +6,7 @@ use Rattle.sl_link.specs.declared.link.counted.Counted.{Counted}
 use Rattle.sl_link.specs.declared.link.fault.LinkFault.{LinkFault}
 use Rattle.sl_link.specs.declared.link.fault.LinkFault.TheVariants.{Memory}
 use Rattle.sl_link.specs.Io.Streams.{ReadsAll}
-use Rattle.sl_link.specs.Kind.Delivery.{AreDelivered, AreStored, Kind, counts_in, packets_of}
+use Rattle.sl_link.specs.Kind.Delivery.{AreDelivered, AreStored, Kind, counts_in, recorded_packets}
 use Rattle.sl_link.specs.Link.Totals.{Counts}
 use Rattle.sl_link.specs.Tally.{listing_counts}
 
@@ -14,7 +14,7 @@ use Rattle.sl_link.specs.Tally.{listing_counts}
 
 -- the normal form of a recording's packets
 abbrev pub form_text : Kind → (List (List (List ℕ)) → List ℕ) → List ℕ → List ℕ
-form_text k form_of recording = form_of (packets_of k recording)
+form_text k form_of recording = form_of (recorded_packets k recording)
 
 -- the lists of the channels, of all that are stored
 abbrev pub listed : Kind → List (List (List ℕ)) → List (List (List ℕ))

@@ -14,7 +14,8 @@ use crate::pass::CHUNK_SIZE;
 use std::alloc::Global;
 use std::io::Write;
 
-/// Octets enough for those that aren't written yet, 0x10000 at most, and a piece of either kind, 0x30000 at most.
+/// Octets enough for those that aren't written yet, 0x10000 at most, and a piece of either kind,
+/// 0x30000 at most.
 const FORM_SIZE: usize = 0x40000;
 
 /// A normal form that is made piece by piece, so that it need not be held whole.
@@ -45,7 +46,8 @@ pub trait Form {
         ensures keeps { ready self.old → ready self.new }
         ensures capacity { vec_capacity text.old ≤ vec_capacity text.new };
 
-    /// Takes the memory that the form wants for itself. The text has room for a piece, and keeps its octets.
+    /// Takes the memory that the form wants for itself. The text has room for a piece, and keeps its
+    /// octets.
     fn reserve(&mut self, text: &mut Vec<u8>) -> Result<(), LinkFault>
         requires room { vec_len text.old + piece_size ≤ vec_capacity text.old }
         ensures ready { OnOk result (ready self.new) }

@@ -25,8 +25,8 @@ const LAST_OF_LONGEST: [u8; 64] = [
 // Two packets on channel 0, the second of them completes a frame, and one on channel 3.
 const PACKETS: [(u16, &[u8]); 3] = [(0, &OF_23), (0, &TELEMETRY), (3, &SPLIT)];
 
-// The octets of each piece: of the frame that the first two packets complete, and of those that an idle packet
-// completes on each channel.
+// The octets of each piece: of the frame that the first two packets complete, and of those that an
+// idle packet completes on each channel.
 const PIECES: [usize; 3] = [32, 32, 32];
 
 fn is_form_of(alloc: Global, packets: &[(u16, &[u8])], wanted: &[u8]) -> Result<bool, Stop> {

@@ -36,7 +36,8 @@ pub enum RecordingKind {
 /// What is done with a recording, and which frames it has.
 pub type Engine = (VerbName, RecordingKind);
 
-/// Runs an engine: for `Show` and `Tm` it is [`show_tm`], and so on.
+/// Calls the engine of a verb and a kind: for `Show` and `Tm` [`show_tm`], and so on. The faults are
+/// the engine's. No clause says at which recordings `Memory` may come; `Show` never answers it.
 pub fn run_engine<R: Read, W: Write>(
     alloc: Global,
     engine: Engine,

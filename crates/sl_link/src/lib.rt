@@ -13,8 +13,8 @@
 //! Each call is under the [`Managed`] parameters of the link, and answers why it stopped, a
 //! [`LinkFault`], or what it found. The first three read a [`Counted`] stream, write another one
 //! and answer what they counted, their [`Totals`]. The last two answer a `bool`; `same_packets_`
-//! reads two such streams. [`run_engine`] is the first three, by a [`VerbName`] and a
-//! [`RecordingKind`].
+//! reads two such streams. [`run_engine`] makes a call of the first three points, which a
+//! [`VerbName`] and a [`RecordingKind`] choose.
 #![tactic(auto)]
 
 mod engine;

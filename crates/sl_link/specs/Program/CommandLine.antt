@@ -70,7 +70,7 @@ with_default option default = record option { defaults = default ∷ [] }
 abbrev pub needed_number : Text → ValueParser → Rule
 needed_number name numbers = needed (with_numbers (text_rule name) numbers)
 
--- the same, with the number that stands where it is left out
+-- `--NAME NUMBER`, with the number that it has where it is left out
 abbrev pub number_or : Text → ValueParser → Text → Rule
 number_or name numbers default = with_default (with_numbers (text_rule name) numbers) default
 

@@ -189,12 +189,11 @@ class TcFrames:
                 return places
             self.recording.look(at, 3)                       # here, for its field, and for its channel
             after, ours = self.header(at + header[1]), header[0] in self.scids
-            if not ours and not (self.fecf and self.right(at + header[1])) and (
-                    not (after and after[0] in self.scids) or self.begin(at + 1, at + header[1]) is not None):
+            if not ours and (not (after and after[0] in self.scids) or self.begin(at + 1, at + header[1]) is not None):
                 return places
             places.append((at, header[1]))
             frame = self.block[at:at + header[1]]
-            if ours and self.doubtful(frame) and not (self.fecf and self.right(at + header[1])):
+            if ours and self.doubtful(frame):
                 within = self.begin(at + 1, at + header[1])
                 if within is not None and (self.fecf or self.goes_on(within, 1)):
                     return places

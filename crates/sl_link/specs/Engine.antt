@@ -1,6 +1,8 @@
 -- The engines: what is done with a recording, by the kind of its frames. What an engine writes for a recording and what
 -- it counts in it, and how it stops.
 use Rattle.std.specs.Prelude.{ℕ, List, ◌≡◌, ◌≢◌, Option}
+use Rattle.sl_tcframe.specs.TcDelimited.{tc_frames_of}
+use Rattle.sl_tmframe.specs.TmDelimited.{tm_frames_of}
 use Rattle.sl_link.specs.declared.engine.RecordingKind.{RecordingKind}
 use Rattle.sl_link.specs.declared.engine.RecordingKind.TheVariants.{Tm, Tc}
 use Rattle.sl_link.specs.declared.engine.VerbName.{VerbName}
@@ -9,9 +11,9 @@ use Rattle.sl_link.specs.declared.link.counted.Counted.{Counted}
 use Rattle.sl_link.specs.declared.link.fault.LinkFault.{LinkFault}
 use Rattle.sl_link.specs.declared.link.fault.LinkFault.TheVariants.{Memory, Write}
 use Rattle.sl_link.specs.Io.Streams.{IsRead, TranslatesWithTotals, Stops}
-use Rattle.sl_link.specs.Kind.Tc.{tc_counts}
-use Rattle.sl_link.specs.Kind.Tm.{tm_counts}
-use Rattle.sl_link.specs.Link.Managed.{Parameters}
+use Rattle.sl_link.specs.Kind.Tc.{IsIncompleteAtLastTc, MayRefuseMemoryTc, tc_counts}
+use Rattle.sl_link.specs.Kind.Tm.{IsIncompleteAtLastTm, MayRefuseMemoryTm, tm_counts}
+use Rattle.sl_link.specs.Link.Managed.{Parameters, tc_format}
 use Rattle.sl_link.specs.Link.Totals.{Counts}
 use Rattle.sl_link.specs.Normalise.Tc.{tc_normal_form}
 use Rattle.sl_link.specs.Normalise.Tm.{tm_normal_form}
@@ -46,6 +48,22 @@ engine_counts Check Tm = check_tm_counts
 engine_counts Check Tc = check_tc_counts
 engine_counts verb Tm = tm_counts
 engine_counts verb Tc = tc_counts
+
+-- the frames that a recording is divided into
+abbrev pub engine_frames : RecordingKind → Parameters → List ℕ → List (List ℕ)
+engine_frames Tm managed = tm_frames_of managed.tm_length
+engine_frames Tc managed = tc_frames_of (tc_format managed)
+
+-- Where the last of some frames may want memory that is refused: nowhere for a listing of frames, and else as the
+-- engine says.
+abbrev pub MayRefuseEngineMemory : VerbName → RecordingKind → Parameters → List (List ℕ) → Type 0
+MayRefuseEngineMemory Show kind managed frames = ⊥
+MayRefuseEngineMemory Check Tm managed frames = IsIncompleteAtLastTm managed frames
+MayRefuseEngineMemory Check Tc managed frames = IsIncompleteAtLastTc managed frames
+MayRefuseEngineMemory Packets Tm managed frames = IsIncompleteAtLastTm managed frames
+MayRefuseEngineMemory Packets Tc managed frames = IsIncompleteAtLastTc managed frames
+MayRefuseEngineMemory Normalise Tm managed frames = MayRefuseMemoryTm managed frames
+MayRefuseEngineMemory Normalise Tc managed frames = MayRefuseMemoryTc managed frames
 
 module _ {R W : Type 0} (remaining : R → Option (List ℕ)) (contents : W → Option (List ℕ)) where
   -- the engine's text of a recording was written, and the totals are its counts of it

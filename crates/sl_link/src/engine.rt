@@ -1,6 +1,7 @@
 //! The engines, by what is done with a recording and by the kind of its frames.
-ghost use Rattle.std.specs.Prelude.{IfOk, IfErr};
-ghost use Rattle.sl_link.specs.Engine.{HasWritten, IsStoppedBy};
+ghost use Rattle.std.specs.Prelude.{◌≡◌, IfOk, IfErr};
+ghost use Rattle.sl_link.specs.Engine.{HasWritten, IsStoppedBy, MayRefuseEngineMemory, engine_frames};
+ghost use Rattle.sl_link.specs.Pass.{MayRefuseMemoryAtSome};
 
 use crate::link::counted::Counted;
 use crate::link::fault::LinkFault;
@@ -37,7 +38,7 @@ pub enum RecordingKind {
 pub type Engine = (VerbName, RecordingKind);
 
 /// Calls the engine of a verb and a kind: for `Show` and `Tm` [`show_tm`], and so on. The faults are
-/// the engine's. No clause says at which recordings `Memory` may come; `Show` never answers it.
+/// the engine's; `Memory` comes where that engine may be refused memory, for `Show` never.
 pub fn run_engine<R: Read, W: Write>(
     alloc: Global,
     engine: Engine,
@@ -51,6 +52,10 @@ pub fn run_engine<R: Read, W: Write>(
     // A fault has its cause, and a prefix of the text of what was read is written.
     ensures stopped { IfErr result (IsStoppedBy R.remaining W.contents reader.old reader.new
         writer.old writer.new engine managed.now) }
+    // Memory is refused only where that engine may be refused it, for a listing of frames nowhere.
+    ensures memory { IfErr result (λ fault. fault ≡ LinkFault.Memory
+        → MayRefuseMemoryAtSome R.remaining reader.old reader.new
+        (engine_frames engine.1 managed.now) (MayRefuseEngineMemory engine.0 engine.1 managed.now)) }
 {
     match engine {
         (VerbName::Show, RecordingKind::Tm) => show_tm(managed, reader, writer),

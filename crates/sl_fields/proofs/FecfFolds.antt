@@ -23,7 +23,9 @@ abbrev pub without_sums : List ℕ → List ℕ → List ℕ → List ℕ → Li
 without_sums a b c d =
     a ++ (zip2 bit_xor b a ++ (zip2 bit_xor (zip2 bit_xor c b) (drop 4 none ++ take 4 a) ++ zip2 bit_xor (zip2 bit_xor d c) (drop 4 a ++ take 4 b)))
 
--- the part of these four slices
+-- The part of these four sums without what they add to each other. `a` begins 64 octets before the end, and 48 octets
+-- come after it. It was added to the octets 16 and 44 places later, after which 32 and 4 come. Of `b`, the first four
+-- octets alone can be added 44 places later.
 abbrev held : ℕ → List ℕ → List ℕ → List ℕ → List ℕ → ℕ
 held later a b c d =
     bit_xor (bit_xor (part_of (48 + later) a) (bit_xor (part_of (32 + later) a) (part_of (4 + later) a)))
@@ -37,6 +39,9 @@ pub record Holds (message a b c d : List ℕ) : Type 0 where
   pub long_c : length c ≡ 16
   pub long_d : length d ≡ 16
   pub part : (later : ℕ) → part_of later message ≡ held later a b c d
+
+-- In these sums, a letter and a number are the part of the slice of this letter, or of a piece of it, where so many
+-- octets come after the slice or piece (and `later` more).
 
 xor_first : (p16 p q : ℕ) → bit_xor p16 q ≡ bit_xor (bit_xor p16 p) (bit_xor p q)
 xor_first p16 p q = simp xor_sums

@@ -1,27 +1,33 @@
--- the layout of a CLCW
-pub mod ClcwLemmas
--- numbers of one octet, read from decimal text
-pub mod DecimalLemmas
--- known error control fields
-pub mod FecfFacts
--- a message whose slices are added to later ones
-pub mod FecfFolds
--- four slices to two, and two to one
-pub mod FecfHalves
--- octets that end with their error control field
-pub mod FecfLemmas
+-- ---- the frame error control field, in the order of reading
+
+-- the register of the long division
+pub mod Division
+-- sums of registers and of messages, without carries
+pub mod FecfSums
+-- the long division finds the only remainder
+pub mod RemainderLemmas
+-- the table of words, and the register after an octet, which is all for a short message
+pub mod FecfWordLemmas
 -- what octets in a message add to its remainder
 pub mod FecfParts
 -- why runs of octets may move
 pub mod FecfRecurrence
 -- what slices of sixteen octets add to a remainder
 pub mod FecfSlices
--- sums of registers and of messages, without carries
-pub mod FecfSums
--- the table of words, and the register after an octet
-pub mod FecfWordLemmas
--- the register of the long division
-pub mod Division
+-- a message whose slices are added to later ones
+pub mod FecfFolds
+-- four slices to two, and two to one
+pub mod FecfHalves
+-- octets that end with their error control field
+pub mod FecfLemmas
+-- known error control fields
+pub mod FecfFacts
+-- ---- headers, and what several of these files share
+
+-- the layout of a CLCW
+pub mod ClcwLemmas
+-- numbers of one octet, read from decimal text
+pub mod DecimalLemmas
 -- flags as fields of one bit
 pub mod Flags
 -- known headers
@@ -42,8 +48,6 @@ pub mod Octets
 pub mod PacketHeaderLemmas
 -- fields packed into a number, and taken out again
 pub mod Packing
--- the long division finds the only remainder
-pub mod RemainderLemmas
 -- the layout of a segment header
 pub mod SegmentHeaderLemmas
 -- the layout of a TC header

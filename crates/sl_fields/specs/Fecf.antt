@@ -25,8 +25,8 @@ abbrev pub plus_bit : Bool → Bool → Bool
 plus_bit false b = b
 plus_bit true b = not b
 
--- The sum without carries of two lists of bits, from the front on: the bits of the first list are
--- added to the first bits of the second. The sum is as long as the second list.
+-- The sum without carries of two lists of bits, from the front on: the bits of the first list, the
+-- word, are added to the first bits of the second. The sum is as long as the second list.
 abbrev pub plus_word : List Bool → List Bool → List Bool
 plus_word [] bits = bits
 plus_word (w ∷ word) [] = []

@@ -1,5 +1,5 @@
--- Numbers that never fall from one to the next. Contracts of the crates above cite this file. No
--- contract of this crate does.
+-- Numbers that never fall from one to the next. Laws of `sl_tmflow` and `sl_tcflow` cite this file.
+-- No contract of this crate does.
 use Rattle.std.specs.Prelude.{⊤, ℕ, ◌≤◌, List, [], ◌∷◌}
 
 -- No number is below the one before it, and the first number isn't below `least`.

@@ -1,5 +1,5 @@
--- Whether a managed number is outside its bounds. Contracts of the crates above cite this file. No
--- contract of this crate does.
+-- Whether a managed number is outside its bounds. Contracts of `sl_tmframe`, `sl_tcframe` and
+-- `sl_link` cite this file. No contract of this crate does.
 use Rattle.std.specs.Prelude.{ℕ, nat_lt, Bool, ◌||◌}
 
 -- whether `n` is below `low` or above `high`

@@ -37,6 +37,8 @@ pub fn fecf(octets: &[u8]) -> u16
         };
         return number(after_octets(preset, octets));
     }
+    // This is the same: `folded` takes in `84 CF` before the octets, which turn a register of zeros
+    // into the preset.
     let zeros = Register { high: 0, low: 0 };
     number(after_octets(zeros, &folded(octets).to_array()))
 }

@@ -4,7 +4,8 @@
 //! The generator is x^16 + x^12 + x^5 + 1, and all sums are without carries, so a square is the sum
 //! of the squares. Thus x^16 has the remainder of x^12 + x^5 + 1, x^32 that of x^24 + x^10 + 1, and
 //! so on. An octet is eight bits: where it is added to the octets 4, 11 and 16 places later, a zero
-//! may stand in its own place. The same holds for 8, 22 and 32 places, and for 16, 44 and 64.
+//! may stand in its own place. The same holds for 8, 22 and 32 places, and for 16, 44 and 64. All
+//! folds here stand on this, which is the law `runs_may_move`.
 ghost use Rattle.std.specs.Prelude.{◌≡◌, ◌≤◌, ◌++◌, length, take, drop};
 ghost use Rattle.sl_fields.specs.Fecf.{fecf_of};
 ghost use Rattle.sl_fields.specs.FecfFolds.{part_of, first_two_of};
@@ -23,7 +24,8 @@ pub(crate) fn folded(octets: &[u8]) -> u8x16
 }
 
 // Four slices with the remainder of all: each slice is added to the octets 16, 44 and 64 places
-// later. So a sum takes in the last sum, the one four slices before, and across two between these.
+// later. So a sum takes in the last sum and the one four slices before. Since 44 = 2 * 16 + 12, it
+// also takes in the last twelve octets of the one three slices before, and then four of the next.
 #[inline(always)]
 fn four_of_all(octets: &[u8]) -> (u8x16, u8x16, u8x16, u8x16)
     requires { 16 ≤ length octets.now }

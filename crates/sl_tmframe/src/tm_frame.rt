@@ -120,7 +120,9 @@ impl<'a> TmFrame<'a> {
     }
 
     /// The content of the frame. The offset of the first packet start, if there is one, is below
-    /// the length of the data field, and this length is at most 2042.
+    /// the length of the data field, and this length is at most 2042. In the clauses the function
+    /// `data_field` (specs/TmField.antt) takes a [`TmField`] to the `DataField` of
+    /// specs/TmFrame.antt.
     pub fn field(&self) -> TmField<'a>
         ensures value { data_field result ≡ self.now.field }
         ensures inside { IsInField (data_field result) }

@@ -18,7 +18,8 @@ pub struct TmFramer {
     // The number of octets that were taken after the last frame, fewer than a frame has.
     held: usize,
     // The octets that were taken after the last frame lie at the front. The array has 2048 octets
-    // at all times: later octets overwrite earlier ones, and nothing is cleared between frames.
+    // at all times: later octets overwrite earlier ones, and nothing is cleared between frames. (In
+    // `TcFramer` each frame has a length of its own. The array's length is that of the lent frame.)
     taken: ArrayVec<u8, 2048>,
 }
 
@@ -57,23 +58,23 @@ impl TmFramer {
         &self.taken.as_slice()[..self.held]
     }
 
-    /// Takes octets from the front of the chunk `piece`, and returns the frame that they complete
-    /// together with the octets that were taken before. `piece` is left with the octets after the
-    /// frame.
+    /// Takes octets from the front of `piece`, which is a chunk of the recording or what is left of
+    /// one, and returns the frame that they complete together with the octets that were taken
+    /// before. `piece` is left with the octets after the frame.
     ///
-    /// `None` comes exactly where the chunk is used up before a frame is complete. All octets of
-    /// the chunk are then taken, and `piece` is left empty.
+    /// `None` comes exactly where `piece` is used up before a frame is complete. All its octets are
+    /// then taken, and it is left empty.
     pub fn next(&mut self, piece: &mut &[u8]) -> Option<&[u8]>
         // The state once the returned frame isn't borrowed any more: no octet is held after a
-        // frame. Without a frame the chunk was added to the octets that were held.
+        // frame. Without a frame the piece was added to the octets that were held.
         ensures* taken { sem 𝓛 (Rests the_row self.entry (HasTaken self.old piece.old.now result)) }
 
         // A frame has the octets that were taken after the last frame, and then octets from the
-        // front of the chunk. The other octets of the chunk are left.
+        // front of the piece. The other octets of the piece are left.
         ensures frame { IfSome result (λ frame.
             YieldsFrame self.old piece.old.now frame.now piece.new.now) }
 
-        // Without a frame the chunk was used up first.
+        // Without a frame the piece was used up first.
         ensures used_up { IfNone result (UsesUpChunk self.old piece.old.now piece.new.now) }
     {
         let wanted = usize::from(self.len) - self.held;
@@ -90,11 +91,11 @@ impl TmFramer {
         Some(&self.taken.as_slice()[..usize::from(self.len)])
     }
 
-    /// As [`next`](TmFramer::next), with the same clauses, for a chunk that outlives the frame.
+    /// As [`next`](TmFramer::next), with the same clauses, for a piece that outlives the frame.
     ///
     /// No clause says where the octets of a frame lie. As the code is written, a frame that lies
-    /// whole in the chunk is returned as a slice of the chunk, and only a frame that lies in
-    /// several chunks is copied.
+    /// whole in the piece is returned as a slice of it, and only one that lies in several pieces is
+    /// copied.
     #[inline]
     pub fn next_from<'a, 'p: 'a>(&'a mut self, piece: &mut &'p [u8]) -> Option<&'a [u8]>
         ensures* taken { sem 𝓛 (Rests the_row self.entry (HasTaken self.old piece.old.now result)) }
@@ -117,8 +118,8 @@ impl TmFramer {
         frame
     }
 
-    // As `next`, out of line: for a frame that lies in several chunks, and for a chunk that ends
-    // before a frame is complete.
+    // As `next`, out of line: for a frame that lies in several pieces, and for a piece that ends
+    // before a frame is complete. The clause `answer` is `frame` and `used_up` in one.
     #[cold]
     fn next_across(&mut self, piece: &mut &[u8]) -> Option<&[u8]>
         ensures* taken { sem 𝓛 (Rests the_row self.entry (HasTaken self.old piece.old.now result)) }

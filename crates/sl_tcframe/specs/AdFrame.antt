@@ -13,9 +13,10 @@ plain_room_of format = format.max - 5 - fecf_len format.fecf
 abbrev pub segment_room_of : TcFormat → ℕ
 segment_room_of format = format.max - 6 - fecf_len format.fecf
 
--- The fields of the header of a frame that has `len` octets, each as its width in bits and its
--- value: version 0, bypass flag 0, control command flag 0, spare bits 0, the spacecraft, the
--- virtual channel, the frame length (the octets of the frame minus 1), and N(S).
+-- The fields of the header of a frame that has `len` octets, which is the `ad_header` of
+-- `sl_fields`, each as its width in bits and its value: version 0, bypass flag 0, control command
+-- flag 0, spare bits 0, the spacecraft, the virtual channel, the frame length (the octets of the
+-- frame minus 1), and N(S).
 abbrev pub ad_fields : ℕ → ℕ → ℕ → ℕ → List (ℕ × ℕ)
 ad_fields spacecraft vc ns len =
     (2, 0) ∷ (1, 0) ∷ (1, 0) ∷ (2, 0) ∷ (10, spacecraft) ∷ (6, vc) ∷ (10, len - 1) ∷ (8, ns) ∷ []

@@ -87,7 +87,9 @@ Carries h field (SetVr vr) = (h.bypass ≡ true) × (h.command ≡ true) × (fie
 
 -- Why a frame is skipped: a wrong error control field where the format has one; another version
 -- than 0; another spacecraft; more octets than the managed greatest length; the control command
--- flag without the bypass flag; no data field; or type BC without a control command.
+-- flag without the bypass flag; no data field; or type BC without a control command. The error
+-- control field is taken from the end of the octets, not from parts as in TM: the law on reading
+-- holds for any octets, also for too few to have parts.
 abbrev pub HasReason : TcFormat → ℕ → List ℕ → TcSkip → Type 0
 HasReason format spacecraft frame Fecf = (format.fecf ≡ true) × (fecf_is_good frame ≡ false)
 HasReason format spacecraft frame Version = (tc_header_of frame).version ≢ 0
@@ -214,13 +216,13 @@ abbrev pub OnlyFramesHaveParts : Type 0
 OnlyFramesHaveParts =
     (format : TcFormat) (frame : List ℕ) (p : TcParts) → ArePartsOf format frame p → is_cut format frame ≡ true
 
--- Each frame is read or skipped as `IsReadAs` says.
+-- Any octets, one frame or not, are read or skipped as `IsReadAs` says.
 abbrev pub EachIsRead : Type 0
 EachIsRead =
     (format : TcFormat) (spacecraft : ℕ) (frame : List ℕ)
     → IsReadAs format spacecraft frame (tc_frame format spacecraft frame)
 
--- A frame is read or skipped in no other way.
+-- Octets are read or skipped in no other way.
 abbrev pub IsReadOnce : Type 0
 IsReadOnce =
     (format : TcFormat) (spacecraft : ℕ) (frame : List ℕ) (read : Result TcView TcSkip)

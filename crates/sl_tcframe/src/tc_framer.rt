@@ -75,13 +75,14 @@ impl TcFramer {
         }
     }
 
-    /// Takes octets from the front of the chunk `piece`, and returns the frame that they complete
-    /// together with the octets that were taken before. `piece` then holds the octets after the
-    /// frame. The frame is one by its frame length field, and may be longer than [`TcShape::max`].
+    /// Takes octets from the front of `piece`, which is a chunk of the recording or what is left of
+    /// one, and returns the frame that they complete together with the octets that were taken
+    /// before. `piece` then holds the octets after the frame. The frame is one by its frame length
+    /// field, and may be longer than [`TcShape::max`].
     ///
     /// `None` comes in two cases:
     ///
-    /// - The chunk is used up before a frame is complete.
+    /// - `piece` is used up before a frame is complete.
     /// - The first four octets after the last frame state a length below [`TcShape::least`].
     ///   `piece` then holds the octets after these four, and the framer takes no octet in any later
     ///   call.
@@ -90,16 +91,17 @@ impl TcFramer {
         ensures* taken { sem 𝓛 (Rests the_row self.entry (HasTaken self.old piece.old.now result)) }
 
         // A frame has the octets that were taken after the last frame, and then octets from the
-        // front of the chunk.
+        // front of the piece.
         ensures frame { IfSome result (λ frame.
             YieldsFrame self.old piece.old.now frame.now piece.new.now) }
         ensures cut { IfSome result (λ frame. is_cut self.old.format frame.now ≡ true) }
 
-        // `None` means that no frame is whole. What is left of the chunk is nothing, or what comes
+        // `None` means that no frame is whole. What is left of the piece is nothing, or what comes
         // after four octets that state a length below the least.
         ensures none { IfNone result (YieldsNone self.old piece.old.now piece.new.now) }
 
-        // A framer that is stuck takes no octet and returns no frame.
+        // A framer that is stuck takes no octet and returns no frame. The other clauses and that of
+        // `rest` have this as a consequence, so it spares callers a proof.
         ensures stuck { StaysStuck self.old piece.old.now result piece.new.now }
     {
         if self.is_lent {
@@ -113,14 +115,13 @@ impl TcFramer {
         Some(self.taken.as_slice())
     }
 
-    /// As [`next`](TcFramer::next), for a chunk that outlives the frame.
+    /// As [`next`](TcFramer::next), with the same clauses, for a piece that outlives the frame.
     ///
-    /// A frame that lies whole in the chunk is returned as a slice of the chunk, where no octets
-    /// were taken after the last frame. Only other frames are copied. The code shows this; no
-    /// clause says where the octets of a frame lie.
+    /// No clause says where the octets of a frame lie. As the code is written, a frame that lies
+    /// whole in the piece is returned as a slice of it, and only one that lies in several pieces is
+    /// copied.
     #[inline]
     pub fn next_from<'a, 'p: 'a>(&'a mut self, piece: &mut &'p [u8]) -> Option<&'a [u8]>
-        // The clauses are those of `next`.
         ensures* taken { sem 𝓛 (Rests the_row self.entry (HasTaken self.old piece.old.now result)) }
         ensures frame { IfSome result (λ frame.
             YieldsFrame self.old piece.old.now frame.now piece.new.now) }
@@ -128,7 +129,7 @@ impl TcFramer {
         ensures none { IfNone result (YieldsNone self.old piece.old.now piece.new.now) }
         ensures stuck { StaysStuck self.old piece.old.now result piece.new.now }
     {
-        // `next_across` borrows a copy of the caller's reference to the chunk. So the caller's own
+        // `next_across` borrows a copy of the caller's reference to the octets. So the caller's own
         // reference may stay in a register.
         let mut octets: &'p [u8] = *piece;
         if self.rest().is_empty() {
@@ -142,8 +143,8 @@ impl TcFramer {
         frame
     }
 
-    // As `next`, where `next_from` finds no whole frame in the chunk alone. Such calls are expected
-    // to be rare.
+    // As `next`, where `next_from` finds no whole frame in the piece alone. Such calls are expected
+    // to be rare. The clause `answer` is `frame`, `cut` and `none` in one.
     #[cold]
     fn next_across(&mut self, piece: &mut &[u8]) -> Option<&[u8]>
         ensures* taken { sem 𝓛 (Rests the_row self.entry (HasTaken self.old piece.old.now result)) }
@@ -155,7 +156,7 @@ impl TcFramer {
 }
 
 // The whole frame at the front of the octets and the octets after it. `None` where no frame is
-// whole.
+// whole; no clause says so, since the caller then tries `next_across`, which is right in any case.
 #[inline]
 fn split_frame<'p>(shape: &TcShape, octets: &'p [u8]) -> Option<(&'p [u8], &'p [u8])>
     ensures { IfSome result (λ parts.
@@ -192,7 +193,8 @@ fn complete(shape: &TcShape, taken: &mut ArrayVec<u8, 1024>, chunk: &mut &[u8]) 
     is_whole(taken.as_slice(), len)
 }
 
-// Whether there are at least `len` octets, the length that the first four state.
+// Whether there are at least `len` octets, the length that the first four state. A function of its
+// own for its proof: where there are so many, the header's five octets state this length too.
 fn is_whole(octets: &[u8], len: usize) -> bool
     requires stated { len ≡ len_by_four octets.now }
     requires header { 5 ≤ len }
@@ -216,7 +218,7 @@ fn len_by_four(octets: &[u8]) -> Option<usize>
 }
 
 // Takes octets from the front of the chunk until `taken` has `count` octets, or the chunk is used
-// up. Takes none where `taken` has more already.
+// up. Takes none where `taken` has more already. Room is never refused, as `count` is at most 1024.
 fn fill(taken: &mut ArrayVec<u8, 1024>, chunk: &mut &[u8], count: usize)
     requires { count ≤ 1024 }
     ensures taken { taken.new.items

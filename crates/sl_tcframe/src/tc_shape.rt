@@ -72,7 +72,8 @@ impl TcShape {
 
     /// The greatest number of octets that a frame carries after a segment header, 8 to 1018: all
     /// but the five octets of the primary header, the one of the segment header, and the two of the
-    /// error control field where there is one.
+    /// error control field where there is one. The room of a TM format is that of a whole data
+    /// field, which is [`plain_room`](TcShape::plain_room) here.
     pub fn room(&self) -> u16
         ensures value { result ≡ segment_room_of self.now }
         ensures least { 8 ≤ result }
@@ -95,9 +96,9 @@ impl TcShape {
         self.room() + 1
     }
 
-    /// Whether the octets are one whole frame, cut out of a recording, and so may be read: there
-    /// are at least [`least`](TcShape::least) of them, and exactly as many as their frame length
-    /// field states. There may be more than [`max`](TcShape::max).
+    /// Whether the octets are one whole frame, cut out of a recording (not cut off), and so may be
+    /// read: there are at least [`least`](TcShape::least) of them, and exactly as many as their
+    /// frame length field states. There may be more than [`max`](TcShape::max).
     pub fn is_cut(&self, octets: &[u8]) -> bool
         ensures { result ≡ is_cut self.now octets.now }
     {

@@ -7,7 +7,7 @@ use sl_fields::read_decimal;
 use std::marker::Model;
 
 /// A set of TC virtual channels of CCSDS 232.0-B, by their identifiers, 0 to 63. In clauses a set
-/// is the list of its identifiers, which rise strictly.
+/// is the list of its identifiers, which rise strictly: a clause `numbers` says this to callers.
 #[derive(Clone, Copy, Debug, PartialEq, Eq)]
 pub struct VcSet {
     flags: [bool; 64],

@@ -132,9 +132,9 @@ impl SeriesStore {
     }
 }
 
-// Takes a segment of a channel that the list doesn't reach, so that no series is incomplete there.
-// Only a first segment begins one, and this is none. The number 1 in the clauses is its sequence
-// flags. The only fault is `Sink`: the sink refused a packet.
+// Takes a segment other than a first one (sequence flags 1), of a channel that the list doesn't
+// reach. No series is incomplete there, and none begins: a whole packet is handed over, and any
+// other segment is stray. The only fault is `Sink`: the sink refused a packet.
 fn take_alone<S: PacketSink>(segment: &Segment, sink: &mut S) -> Result<TcStep, FlowFault>
     requires { segment.now.flags ≢ 1 }
     // No series is incomplete after the segment either.

@@ -1,6 +1,7 @@
 -- A normal form that is made piece by piece: the octets that are still to come, and a piece. The
--- frames are those that `channel_frame` defines. The division into pieces is the code's, and no
--- definition says where a piece ends.
+-- division into pieces is the code's, and no definition says where a piece ends. The recursion of
+-- `form_left` is the code's too. The clause `left` of `TmForm::new` ties it to the definition: at
+-- first `form_of` is still to come, whose frames are those that `channel_frame` defines.
 use Rattle.std.specs.Prelude.{◌≡◌, ℕ, zero, suc, ◌+◌, ◌*◌, ◌/◌, ◌%◌, ◌<◌, ◌≤◌, ◌==◌, if◌then◌else◌, List, [], ◌∷◌, ◌++◌, length, take, drop, Option, None, Some}
 use Rattle.std.specs.List.{concat}
 use Rattle.std.specs.Global.{Vec}
@@ -54,7 +55,13 @@ pub record AddsPiece (left made left' made' : List ℕ) : Type 0 where
 
 -- the heading `frames` frames later
 abbrev pub heading_after : Heading → ℕ → Heading
-heading_after h frames = record { spacecraft = h.spacecraft; vc = h.vc; master = (h.master + frames) % 256; counter = (h.counter + frames) % 256 }
+heading_after h frames =
+    record {
+      spacecraft = h.spacecraft;
+      vc = h.vc;
+      master = (h.master + frames) % 256;
+      counter = (h.counter + frames) % 256;
+    }
 
 -- the frame of packets with this heading, this first packet start and this data field
 abbrev pub headed_frame : TmFormat → Heading → Option ℕ → List ℕ → List ℕ
@@ -107,7 +114,8 @@ channel_left format h start octets (packet ∷ packets) others =
     let all : List ℕ = octets ++ packet in
     let frames : ℕ = fields_in format all in
     frames_of format h (Some start) all
-    ++ channel_left format (heading_after h frames) (start_after start frames (beyond_fields format all)) (beyond_fields format all) packets others
+    ++ channel_left format (heading_after h frames) (start_after start frames (beyond_fields format all))
+    (beyond_fields format all) packets others
 channel_left format h start [] [] others = others h
 channel_left format h start (octet ∷ octets) [] others =
     let all : List ℕ = filled_up format (octet ∷ octets) in
@@ -116,8 +124,10 @@ channel_left format h start (octet ∷ octets) [] others =
 -- the frames of virtual channels with these lists of packets, none of which is taken
 abbrev pub lists_left : TmFormat → Heading → List (List (List ℕ)) → List ℕ
 lists_left format h [] = []
-lists_left format h (packets ∷ lists) = channel_left format h 0 [] packets (λ h'. lists_left format (next_channel h') lists)
+lists_left format h (packets ∷ lists) =
+    channel_left format h 0 [] packets (λ h'. lists_left format (next_channel h') lists)
 
 -- the frames of the virtual channel of the heading, and then those of later ones with these lists
 unfoldable pub form_left : TmFormat → Heading → ℕ → List ℕ → List (List ℕ) → List (List (List ℕ)) → List ℕ
-form_left format h start octets packets lists = channel_left format h start octets packets (λ h'. lists_left format (next_channel h') lists)
+form_left format h start octets packets lists =
+    channel_left format h start octets packets (λ h'. lists_left format (next_channel h') lists)

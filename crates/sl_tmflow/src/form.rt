@@ -32,9 +32,9 @@ const OCTETS: usize = 4096;
 /// still to come.
 ///
 /// A piece is the next octets of the form, at least one; no clause says how many. As the code is
-/// written, a piece is the frames that one packet completes, which may be the idle packet that fills
-/// a virtual channel up. Octets of packets that don't fill a data field yet are kept for the next
-/// piece: 2041 octets at most.
+/// written, a piece is the frames that one packet completes, which may be the idle packet that
+/// fills a virtual channel up. Octets of packets that don't fill a data field yet are kept for the
+/// next piece: 2041 octets at most.
 #[derive(Drop)]
 pub struct TmForm<'d> {
     shape: TmShape,

@@ -9,7 +9,7 @@ use Rattle.std.proofs.lemmas.List.Folds.{concat-append}
 use Rattle.std.proofs.Math.Seq.{take-add, take-append-add}
 use Rattle.sl_fields.specs.Fecf.{fecf_of}
 use Rattle.sl_fields.specs.FecfFolds.{part_of, first_two_of}
-use Rattle.sl_fields.proofs.FecfParts.{part-append, part-none, part-zeros, field-part}
+use Rattle.sl_fields.proofs.FecfParts.{part-append, part-none, part-zeros, preset_by_84_CF}
 use Rattle.sl_fields.proofs.FecfRecurrence.{part-recurs}
 use Rattle.sl_fields.proofs.FecfSlices.{none, slices, length-sum, length-across, part-cut, part-two, part-four}
 use Rattle.sl_fields.proofs.Xor.{xor_sums}
@@ -198,4 +198,4 @@ up_to-all octets count all =
     ∙ ap (part_of 0) (append_assoc (replicate (30 - n) 0) (0x84 ∷ (0xCF ∷ take n octets)) (drop n octets))
     ∙ part-zeros 0 (30 - n) (0x84 ∷ (0xCF ∷ (take n octets ++ drop n octets)))
     ∙ ap (λ l. part_of 0 (0x84 ∷ (0xCF ∷ l))) (take-append-drop n octets)
-    ∙ sym (field-part octets)
+    ∙ sym (preset_by_84_CF octets)

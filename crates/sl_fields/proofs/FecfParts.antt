@@ -126,16 +126,16 @@ part-plus later xs ys e =
 -- ---- the field
 
 -- 84 CF turn a register of zeros into the preset
-pub field-part : (octets : List ℕ) → fecf_of octets ≡ part_of 0 (0x84 ∷ (0xCF ∷ octets))
-field-part octets =
+pub preset_by_84_CF : (octets : List ℕ) → fecf_of octets ≡ part_of 0 (0x84 ∷ (0xCF ∷ octets))
+preset_by_84_CF octets =
     fecf_of-register octets
     ∙ register_of-ran (bits_of octets)
     ∙ ap (λ bits. bits_number (ran ones bits)) (sym (append-nil (bits_of octets)))
     ∙ sym (part-left 0 (0x84 ∷ (0xCF ∷ octets)))
 
 -- FF FF turn the preset into a register of zeros
-pub part-field : (octets : List ℕ) → fecf_of (0xFF ∷ (0xFF ∷ octets)) ≡ part_of 0 octets
-part-field octets =
+pub zeros_by_FF_FF : (octets : List ℕ) → fecf_of (0xFF ∷ (0xFF ∷ octets)) ≡ part_of 0 octets
+zeros_by_FF_FF octets =
     fecf_of-append (0xFF ∷ (0xFF ∷ [])) octets
     ∙ ap (λ bits. bits_number (ran zeros bits)) (sym (append-nil (bits_of octets)))
     ∙ sym (part-left 0 octets)

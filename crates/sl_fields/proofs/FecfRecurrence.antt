@@ -7,7 +7,7 @@ use Rattle.std.proofs.lemmas.List.{length-append, length-replicate}
 use Rattle.std.proofs.Math.Nat.{pow-suc, mul_assoc, mul_comm}
 use Rattle.sl_fields.specs.Fecf.{bits_of, plus_word, fecf_of}
 use Rattle.sl_fields.specs.FecfFolds.{part_of, plus_octets, with_run_at, RunsMayMove}
-use Rattle.sl_fields.proofs.FecfParts.{left, left-nil, left-append, left-plus, left-more, part-left, part-zeros, part-append, part-none, part-plus, field-part}
+use Rattle.sl_fields.proofs.FecfParts.{left, left-nil, left-append, left-plus, left-more, part-left, part-zeros, part-append, part-none, part-plus, preset_by_84_CF}
 use Rattle.sl_fields.proofs.Xor.{xor_none, xor_sums, xor_moved, xor_threes}
 
 -- Numbers of which each is the sum of three earlier ones: 4, 11 and 16 places before, or a multiple of these.
@@ -140,6 +140,6 @@ pub runs_may_move : RunsMayMove
 runs_may_move n power before run rest is within =
     let after = length rest - 16 * n in
     ap fecf_of (append_assoc before run rest)
-    ∙ field-part (before ++ (run ++ rest))
+    ∙ preset_by_84_CF (before ++ (run ++ rest))
     ∙ moved n power after (0x84 ∷ (0xCF ∷ before)) run rest is (omega arith)
-    ∙ sym (field-part (before ++ with_run_at (4 * n) run (with_run_at (11 * n) run (with_run_at (16 * n) run (replicate (length run) 0 ++ rest)))))
+    ∙ sym (preset_by_84_CF (before ++ with_run_at (4 * n) run (with_run_at (11 * n) run (with_run_at (16 * n) run (replicate (length run) 0 ++ rest)))))

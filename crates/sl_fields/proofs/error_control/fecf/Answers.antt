@@ -1,6 +1,6 @@
 use Rattle.std.proofs.Common.{◌≡◌, [], ◌∷◌, refl, sym, ◌∙◌}
 use Rattle.sl_fields.specs.Fecf.{fecf_of, register_of}
-use Rattle.sl_fields.proofs.FecfParts.{part-nil, part-field}
+use Rattle.sl_fields.proofs.FecfParts.{part-nil, zeros_by_FF_FF}
 use Rattle.sl_fields.proofs.error_control.fecf.Goals as goal
 
 preset : 65535 ≡ fecf_of []
@@ -13,6 +13,6 @@ returns-then-octets-lt-LEAST_FOLDED c = c.number.ensures ∙ c.after_octets.ensu
 pub returns : goal.returns
 returns c =
     c.number-2.ensures
-    ∙ c.after_octets-2.ensures (0xFF ∷ (0xFF ∷ [])) (sym (part-field [] ∙ part-nil 0))
-    ∙ part-field c.folded.result
+    ∙ c.after_octets-2.ensures (0xFF ∷ (0xFF ∷ [])) (sym (zeros_by_FF_FF [] ∙ part-nil 0))
+    ∙ zeros_by_FF_FF c.folded.result
     ∙ c.folded.ensures

@@ -43,15 +43,15 @@ pub record TcFraming : Type 0 where
 abbrev pub at_start : TcFormat → TcFraming
 at_start format = record { format = format; rest = [] }
 
--- the octets that were taken after the last frame, from the flag `is_lent` and the octets `taken`:
--- none where `taken` is the last frame itself
+-- the octets that were taken after the last frame, from the flag `is_lent` and the octets of the
+-- buffer: none where these are the last frame itself
 abbrev pub waiting_octets : Bool → List ℕ → List ℕ
-waiting_octets true taken = []
-waiting_octets false taken = taken
+waiting_octets true buffer = []
+waiting_octets false buffer = buffer
 
 -- what a `TcFramer` of the code stands for
 abbrev pub framing_of : Inside → TcFraming
-framing_of f = record { format = f.shape; rest = waiting_octets f.is_lent f.taken.items }
+framing_of f = record { format = f.shape; rest = waiting_octets f.is_lent f.buffer.items }
 
 -- The octets that a framer took after the last frame: no frame is whole at their front. Where the
 -- first four state a length below the least, there are only these four.
@@ -59,15 +59,15 @@ abbrev pub IsRest : TcFormat → List ℕ → Type 0
 IsRest format octets =
     (front_of format octets ≡ Incomplete) ⊎ ((front_of format octets ≡ BelowLeast) × (length octets ≡ 4))
 
--- what holds of the octets `taken` of a framer, under the flag `is_lent`: nothing where they are
+-- what holds of the octets of a framer's buffer, under the flag `is_lent`: nothing where they are
 -- the last frame itself, and `IsRest` where they came after it
 abbrev pub IsTaken : Bool → TcFormat → List ℕ → Type 0
-IsTaken true format taken = ⊤
-IsTaken false format taken = IsRest format taken
+IsTaken true format buffer = ⊤
+IsTaken false format buffer = IsRest format buffer
 
 -- the invariant of a `TcFramer`
 pub record IsTcFramer (f : Inside) : Type 0 where
-  pub taken : IsTaken f.is_lent f.shape f.taken.items
+  pub taken : IsTaken f.is_lent f.shape f.buffer.items
 
 -- ---- one call, with a chunk
 

@@ -18,11 +18,11 @@ use std::marker::Model;
 #[derive(Drop)]
 pub struct TcFramer {
     shape: TcShape,
-    // Whether `taken` is the frame that the last call returned. The next call clears `taken` then.
+    // Whether `buffer` is the frame that the last call returned. The next call clears it then.
     is_lent: bool,
     // The octets that were taken after the last frame, or where `is_lent` is set, the octets of
     // that frame.
-    taken: ArrayVec<u8, 1024>,
+    buffer: ArrayVec<u8, 1024>,
 }
 
 impl Model for TcFramer {
@@ -47,7 +47,7 @@ impl TcFramer {
         TcFramer {
             shape: *shape,
             is_lent: false,
-            taken: ArrayVec::new(),
+            buffer: ArrayVec::new(),
         }
     }
 
@@ -60,7 +60,7 @@ impl TcFramer {
         if self.is_lent {
             return &[];
         }
-        self.taken.as_slice()
+        self.buffer.as_slice()
     }
 
     /// Whether the octets in [`rest`](TcFramer::rest) state a length below [`TcShape::least`]. A
@@ -105,14 +105,14 @@ impl TcFramer {
         ensures stuck { StaysStuck self.old piece.old.now result piece.new.now }
     {
         if self.is_lent {
-            self.taken.clear();
+            self.buffer.clear();
             self.is_lent = false;
         }
-        if !complete(&self.shape, &mut self.taken, piece) {
+        if !complete(&self.shape, &mut self.buffer, piece) {
             return None;
         }
         self.is_lent = true;
-        Some(self.taken.as_slice())
+        Some(self.buffer.as_slice())
     }
 
     /// As [`next`](TcFramer::next), with the same clauses, for a piece that outlives the frame.

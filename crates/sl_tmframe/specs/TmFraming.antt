@@ -18,7 +18,7 @@ at_start len = record { len = len; rest = [] }
 
 -- the state that a framer stands for: the octets that it holds lie at the front of its array
 abbrev pub framing_of : Inside → TmFraming
-framing_of f = record { len = f.len; rest = take f.held f.taken.items }
+framing_of f = record { len = f.len; rest = take f.held f.buffer.items }
 
 -- The length of a frame is 32 to 2048 octets, fewer octets than that are held, and the array has
 -- 2048 octets.
@@ -26,7 +26,7 @@ pub record IsTmFramer (f : Inside) : Type 0 where
   pub least : 32 ≤ f.len
   pub most : f.len ≤ 2048
   pub short : f.held < f.len
-  pub room : length f.taken.items ≡ 2048
+  pub room : length f.buffer.items ≡ 2048
 
 -- ---- one call, with a chunk
 

@@ -20,7 +20,7 @@ pub struct TmFramer {
     // The octets that were taken after the last frame lie at the front. The array has 2048 octets
     // at all times: later octets overwrite earlier ones, and nothing is cleared between frames. (In
     // `TcFramer` each frame has a length of its own. The array's length is that of the lent frame.)
-    taken: ArrayVec<u8, 2048>,
+    buffer: ArrayVec<u8, 2048>,
 }
 
 impl Model for TmFramer {
@@ -45,7 +45,7 @@ impl TmFramer {
         TmFramer {
             len: shape.len(),
             held: 0,
-            taken: ArrayVec::from([0; 2048]),
+            buffer: ArrayVec::from([0; 2048]),
         }
     }
 
@@ -55,7 +55,7 @@ impl TmFramer {
         ensures octets { result.now ≡ self.now.rest }
         ensures short { length result.now < self.now.len }
     {
-        &self.taken.as_slice()[..self.held]
+        &self.buffer.as_slice()[..self.held]
     }
 
     /// Takes octets from the front of `piece`, which is a chunk of the recording or what is left of
@@ -79,16 +79,16 @@ impl TmFramer {
     {
         let wanted = usize::from(self.len) - self.held;
         if piece.len() < wanted {
-            write_at(self.taken.as_mut_slice(), self.held, piece);
+            write_at(self.buffer.as_mut_slice(), self.held, piece);
             self.held += piece.len();
             *piece = &[];
             return None;
         }
         let (front, behind) = piece.split_at(wanted);
-        write_at(self.taken.as_mut_slice(), self.held, front);
+        write_at(self.buffer.as_mut_slice(), self.held, front);
         *piece = behind;
         self.held = 0;
-        Some(&self.taken.as_slice()[..usize::from(self.len)])
+        Some(&self.buffer.as_slice()[..usize::from(self.len)])
     }
 
     /// As [`next`](TmFramer::next), with the same clauses, for a piece that outlives the frame.

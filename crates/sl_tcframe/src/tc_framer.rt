@@ -69,7 +69,7 @@ impl TcFramer {
     pub fn stuck(&self) -> bool
         ensures { IsTrue result ↔ IsStuck self.now }
     {
-        match len_by_four(self.rest()) {
+        match len_if_stated(self.rest()) {
             Some(len) => len < usize::from(self.shape.least()),
             None => false,
         }
@@ -162,7 +162,7 @@ fn split_frame<'p>(shape: &TcShape, octets: &'p [u8]) -> Option<(&'p [u8], &'p [
     ensures { IfSome result (λ parts.
         BeginsWithFrame shape.now octets.now parts.0.now parts.1.now) }
 {
-    let len = len_by_four(octets)?;
+    let len = len_if_stated(octets)?;
     if len < usize::from(shape.least()) || octets.len() < len {
         return None;
     }
@@ -182,7 +182,7 @@ fn complete(shape: &TcShape, taken: &mut ArrayVec<u8, 1024>, chunk: &mut &[u8]) 
         → (result ≡ false) × (taken.new.items ≡ taken.old.items) × (chunk.new.now ≡ chunk.old.now) }
 {
     fill(taken, chunk, 4);
-    let len = match len_by_four(taken.as_slice()) {
+    let len = match len_if_stated(taken.as_slice()) {
         Some(len) => len,
         None => return false,
     };
@@ -207,7 +207,7 @@ fn is_whole(octets: &[u8], len: usize) -> bool
 
 // The length of the frame that begins here, as the first four octets state it. `None` where there
 // are fewer than four octets.
-fn len_by_four(octets: &[u8]) -> Option<usize>
+fn len_if_stated(octets: &[u8]) -> Option<usize>
     ensures value { result
         ≡ (if nat_lt (length octets.now) 4 then None else Some (len_by_four octets.now)) }
     ensures most { IfSome result (λ len. len ≤ 1024) }

@@ -6,7 +6,7 @@ use Rattle.sl_tcframe.proofs.tc_framer.complete.Goals as goal
 
 pub returns-then-len-from-clause-taken : goal.returns-then-len-from-clause-taken
 returns-then-len-from-clause-taken c =
-    let told = len_told c.as_slice.result.now c.in-Some.len (sym c.len_by_four.ensures.value ∙ c.in-Some.is) in
+    let told = len_told c.as_slice.result.now c.in-Some.len (sym c.len_if_stated.ensures.value ∙ c.in-Some.is) in
     let first = filled 4 c.args.taken.now.items c.args.chunk.now.now in
     let is : c.as_slice.result.now ≡ first = c.as_slice.ensures.value ∙ c.fill.ensures.taken in
     let low : len_by_four first < least_of c.args.shape.now = omega (arith, told.1, ap len_by_four is, c.if-len-from.true, c.from.ensures, c.least.ensures.value) in
@@ -15,7 +15,7 @@ returns-then-len-from-clause-taken c =
 
 pub is_whole-requires-clause-stated : goal.is_whole-requires-clause-stated
 is_whole-requires-clause-stated c =
-    let told = len_told c.as_slice.result.now c.in-Some.len (sym c.len_by_four.ensures.value ∙ c.in-Some.is) in
+    let told = len_told c.as_slice.result.now c.in-Some.len (sym c.len_if_stated.ensures.value ∙ c.in-Some.is) in
     let first = c.fill.new.taken.items in
     let more = take (c.in-Some.len - length first) c.fill.new.chunk.now in
     let is : c.as_slice.result.now ≡ first = c.as_slice.ensures.value in
@@ -27,7 +27,7 @@ is_whole-requires-clause-header c = omega (arith, c.if-len-from.false, c.from.en
 
 pub returns-clause-taken : goal.returns-clause-taken
 returns-clause-taken c =
-    let told = len_told c.as_slice.result.now c.in-Some.len (sym c.len_by_four.ensures.value ∙ c.in-Some.is) in
+    let told = len_told c.as_slice.result.now c.in-Some.len (sym c.len_if_stated.ensures.value ∙ c.in-Some.is) in
     let first = filled 4 c.args.taken.now.items c.args.chunk.now.now in
     let is : c.as_slice.result.now ≡ first = c.as_slice.ensures.value ∙ c.fill.ensures.taken in
     let len_is : c.in-Some.len ≡ len_by_four first = told.1 ∙ ap len_by_four is in

@@ -8,7 +8,7 @@ use Rattle.sl_fields.specs.Field.{IsOctets}
 use Rattle.sl_tcframe.specs.TcDelimited.{IsTcDelimited, front_len, tc_frames_of, tc_remainder_of}
 use Rattle.sl_tcframe.specs.TcFrame.{TcFormat, is_cut, stated_frame_len}
 use Rattle.sl_tcframe.specs.TcFraming.{BeginsWith, FrameFront, Incomplete, BelowLeast, WholeFrame, IsRest, len_by_four, front_of, TcFraming, YieldsFrame, YieldsNone, YieldsFrames, ended, yielded, paused, after_call, at_start, AnyChunksAreTaken, ChunksAreDelimited, FrontsAreFrames, NoneFollowsBelowLeast}
-use Rattle.sl_tcframe.proofs.DelimitedLemmas.{IsFront, cases_front, cut_front, each_is_delimited, front_is, front_is_cut, front_some, frames_of-frame, frames_of-none, remainder_of-frame, remainder_of-none}
+use Rattle.sl_tcframe.proofs.DelimitedLemmas.{HasFrame, cases_front, cut_front, each_is_delimited, front_is, front_is_cut, front_some, frames_of-frame, frames_of-none, remainder_of-frame, remainder_of-none}
 use Rattle.sl_tcframe.proofs.FramingLemmas.{FrontIs, below_stays, fits_rest, four_state_it, front_below_least, front_tells, front_whole, len_by_four-append, rest_fits}
 use Rattle.sl_tcframe.proofs.PartLemmas.{facts_cut}
 
@@ -49,7 +49,7 @@ front_begins : (format : TcFormat) (octets : List ℕ) (len : ℕ) → BeginsWit
 front_begins format octets len b =
     let (frame, later, parts, cut, size) = b in
     front_is format octets len
-    (subst (λ n. IsFront format octets n) size (subst (λ l. IsFront format l (length frame)) (sym parts) (cut_front format frame later cut)))
+    (subst (λ n. HasFrame format octets n) size (subst (λ l. HasFrame format l (length frame)) (sym parts) (cut_front format frame later cut)))
 
 pub fronts_are_frames : FrontsAreFrames
 fronts_are_frames format octets len each = (
@@ -59,7 +59,7 @@ fronts_are_frames format octets len each = (
 
 -- no frame is at the front of octets where their stated length rules it out
 no_frame : (format : TcFormat) (octets : List ℕ) → IsOctets octets
-    → (IsFront format octets (stated_frame_len octets) → len_by_four octets ≡ stated_frame_len octets → ⊥) → front_len format octets ≡ None
+    → (HasFrame format octets (stated_frame_len octets) → len_by_four octets ≡ stated_frame_len octets → ⊥) → front_len format octets ≡ None
 no_frame format octets each not_so =
     elim (cases_front format octets) [
       | inl (f, some) ↦ absurd (not_so f (stated_by_four octets each f.header))
@@ -135,24 +135,24 @@ all_of-paused f chunk left chunks p =
     ∙ append_assoc (after_call f chunk None).rest left (concat chunks)
 
 -- a framer that is stuck yields no frame, and takes no octet
-pub record StaysStuck (f : TcFraming) (chunks frames : List (List ℕ)) (new : TcFraming) (behind : List ℕ) : Type 0 where
+pub record YieldsNoMore (f : TcFraming) (chunks frames : List (List ℕ)) (new : TcFraming) (behind : List ℕ) : Type 0 where
   pub none : frames ≡ []
   pub rest : new.rest ≡ f.rest
   pub behind_is : behind ≡ concat chunks
 
-stays_stuck : (f new : TcFraming) (chunks frames : List (List ℕ)) (behind : List ℕ) → front_of f.format f.rest ≡ BelowLeast → length f.rest ≡ 4
-    → YieldsFrames f chunks frames new behind → StaysStuck f chunks frames new behind
-stays_stuck f new chunks frames behind below four (ended f') = record { none = refl; rest = refl; behind_is = refl }
-stays_stuck f new chunks' frames' behind' below four (yielded f' new' chunk frame left behind chunks frames y later) =
+yields_no_more : (f new : TcFraming) (chunks frames : List (List ℕ)) (behind : List ℕ) → front_of f.format f.rest ≡ BelowLeast → length f.rest ≡ 4
+    → YieldsFrames f chunks frames new behind → YieldsNoMore f chunks frames new behind
+yields_no_more f new chunks frames behind below four (ended f') = record { none = refl; rest = refl; behind_is = refl }
+yields_no_more f new chunks' frames' behind' below four (yielded f' new' chunk frame left behind chunks frames y later) =
     absurd (apart (sym (below_stays f.format f.rest chunk below) ∙ y.whole))
   where
     apart : BelowLeast ≡ WholeFrame (length frame) → ⊥
     apart e = cc
-stays_stuck f new chunks' frames' behind' below four (paused f' new' chunk left behind chunks frames p later) =
+yields_no_more f new chunks' frames' behind' below four (paused f' new' chunk left behind chunks frames p later) =
     let now = below_stays f.format f.rest chunk below in
     let same : (after_call f chunk None).rest ≡ f.rest = rw now (take_at f.rest chunk 4 four) in
     let left_same : left ≡ chunk = p.left_is ∙ rw now (drop_at f.rest chunk 4 four) in
-    let next = stays_stuck (after_call f chunk None) new chunks frames behind (subst (λ l. front_of f.format l ≡ BelowLeast) (sym same) below) (ap length same ∙ four) later in
+    let next = yields_no_more (after_call f chunk None) new chunks frames behind (subst (λ l. front_of f.format l ≡ BelowLeast) (sym same) below) (ap length same ∙ four) later in
     record {
       none = next.none;
       rest = next.rest ∙ same;
@@ -178,7 +178,7 @@ stuck_theirs f new chunk left behind chunks frames each p below later =
     let parts = append_assoc f.rest chunk (concat chunks) in
     let four : (after_call f chunk None).rest ≡ take 4 octets = rw below refl in
     let again = subst (λ l. front_of f.format l ≡ BelowLeast) (sym four) (below_again f.format octets below) in
-    let stays = stays_stuck (after_call f chunk None) new chunks frames behind again (ap length four ∙ below_taken f.format octets below) later in
+    let stays = yields_no_more (after_call f chunk None) new chunks frames behind again (ap length four ∙ below_taken f.format octets below) later in
     let none = none_below f.format octets (concat chunks) (subst IsOctets (sym parts) each) below in (
       ap (tc_frames_of f.format) (sym parts) ∙ frames_of-none f.format (octets ++ concat chunks) none ∙ sym stays.none,
       ap (tc_remainder_of f.format) (sym parts) ∙ remainder_of-none f.format (octets ++ concat chunks) none ∙ parts

@@ -12,15 +12,15 @@ use Rattle.std.proofs.lemmas.Option.{none-some, same_Some}
 
 -- ---- the front
 
--- the facts about a frame's length at the front
-pub record IsFront (format : TcFormat) (octets : List ℕ) (len : ℕ) : Type 0 where
+-- a frame of this length is at the front, by its header
+pub record HasFrame (format : TcFormat) (octets : List ℕ) (len : ℕ) : Type 0 where
   pub header : 5 ≤ length octets
   pub least : least_of format ≤ len
   pub inside : len ≤ length octets
   pub stated : len ≡ stated_frame_len octets
 
-front_facts : (format : TcFormat) (octets : List ℕ) → begin_no_frame format octets ≡ false → IsFront format octets (stated_frame_len octets)
-front_facts format octets h =
+has_frame : (format : TcFormat) (octets : List ℕ) → begin_no_frame format octets ≡ false → HasFrame format octets (stated_frame_len octets)
+has_frame format octets h =
     let header = or_parts (nat_lt (length octets) 5) (nat_lt (stated_frame_len octets) (least_of format) || nat_lt (length octets) (stated_frame_len octets)) h in
     let stated = or_parts (nat_lt (stated_frame_len octets) (least_of format)) (nat_lt (length octets) (stated_frame_len octets)) header.1 in
     record {
@@ -30,28 +30,28 @@ front_facts format octets h =
       stated = refl;
     }
 
-facts_front : (format : TcFormat) (octets : List ℕ) (len : ℕ) → IsFront format octets len → begin_no_frame format octets ≡ false
-facts_front format octets len f =
+frame_begins : (format : TcFormat) (octets : List ℕ) (len : ℕ) → HasFrame format octets len → begin_no_frame format octets ≡ false
+frame_begins format octets len f =
     let least : least_of format ≤ stated_frame_len octets = rw (← f.stated) f.least in
     let inside : stated_frame_len octets ≤ length octets = rw (← f.stated) f.inside in
     rw (le-ltb (length octets) 5 f.header, le-ltb (stated_frame_len octets) (least_of format) least, le-ltb (length octets) (stated_frame_len octets) inside) refl
 
 -- the two cases of a front
-pub cases_front : (format : TcFormat) (octets : List ℕ) → (IsFront format octets (stated_frame_len octets) × (front_len format octets ≡ Some (stated_frame_len octets)))
+pub cases_front : (format : TcFormat) (octets : List ℕ) → (HasFrame format octets (stated_frame_len octets) × (front_len format octets ≡ Some (stated_frame_len octets)))
     ⊎ ((begin_no_frame format octets ≡ true) × (front_len format octets ≡ None))
 cases_front format octets = go (begin_no_frame format octets) refl
   where
-    go : (b : Bool) → begin_no_frame format octets ≡ b → (IsFront format octets (stated_frame_len octets) × (front_len format octets ≡ Some (stated_frame_len octets)))
+    go : (b : Bool) → begin_no_frame format octets ≡ b → (HasFrame format octets (stated_frame_len octets) × (front_len format octets ≡ Some (stated_frame_len octets)))
         ⊎ ((begin_no_frame format octets ≡ true) × (front_len format octets ≡ None))
     go true e = inr (e, rw e refl)
-    go false e = inl (front_facts format octets e, rw e refl)
+    go false e = inl (has_frame format octets e, rw e refl)
 
 -- the header of octets that begin with a frame is the frame's
 header_seam : (frame more : List ℕ) → 5 ≤ length frame → take 5 (frame ++ more) ≡ take 5 frame
 header_seam frame more long = take-append-le 5 frame more long
 
 -- the front of a frame and the octets after it is the frame
-pub cut_front : (format : TcFormat) (frame more : List ℕ) → is_cut format frame ≡ true → IsFront format (frame ++ more) (length frame)
+pub cut_front : (format : TcFormat) (frame more : List ℕ) → is_cut format frame ≡ true → HasFrame format (frame ++ more) (length frame)
 cut_front format frame more cut =
     let facts = cut_facts format frame cut in
     let least = facts.0 in
@@ -64,7 +64,7 @@ cut_front format frame more cut =
     }
 
 -- the octets at the front, of the stated length, are a frame
-pub front_cut : (format : TcFormat) (octets : List ℕ) (len : ℕ) → IsFront format octets len → is_cut format (take len octets) ≡ true
+pub front_cut : (format : TcFormat) (octets : List ℕ) (len : ℕ) → HasFrame format octets len → is_cut format (take len octets) ≡ true
 front_cut format octets len f =
     let least = f.least in
     let five : 5 ≤ len = omega arith in
@@ -109,8 +109,8 @@ frames_of-none format (octet ∷ octets) h =
 pub remainder_of-none : (format : TcFormat) (octets : List ℕ) → front_len format octets ≡ None → tc_remainder_of format octets ≡ octets
 remainder_of-none format octets h = ap (λ frames. drop (length (concat frames)) octets) (frames_of-none format octets h)
 
-pub front_is : (format : TcFormat) (octets : List ℕ) (len : ℕ) → IsFront format octets len → front_len format octets ≡ Some len
-front_is format octets len f = rw (facts_front format octets len f) (ap Some (sym f.stated))
+pub front_is : (format : TcFormat) (octets : List ℕ) (len : ℕ) → HasFrame format octets len → front_len format octets ≡ Some len
+front_is format octets len f = rw (frame_begins format octets len f) (ap Some (sym f.stated))
 
 -- the frames of a frame and the octets after it
 pub frames_of-frame : (format : TcFormat) (frame more : List ℕ) → is_cut format frame ≡ true → tc_frames_of format (frame ++ more) ≡ frame ∷ tc_frames_of format more
@@ -149,7 +149,7 @@ remainder_of-concat format (frame ∷ frames) more each =
 are_same : (format : TcFormat) (octets : List ℕ) (fs gs : List (List ℕ)) (r s : List ℕ) → gs ≡ fs → s ≡ r → IsTcDelimited format octets fs r → IsTcDelimited format octets gs s
 are_same format octets fs gs r s e h a = rw (e, h) a
 
-one_before : (format : TcFormat) (octets : List ℕ) (len : ℕ) (frames : List (List ℕ)) (rest : List ℕ) → IsFront format octets len → IsTcDelimited format (drop len octets) frames rest
+one_before : (format : TcFormat) (octets : List ℕ) (len : ℕ) (frames : List (List ℕ)) (rest : List ℕ) → HasFrame format octets len → IsTcDelimited format (drop len octets) frames rest
     → IsTcDelimited format octets (take len octets ∷ frames) rest
 one_before format octets len frames rest f a = record {
   end_to_end =
@@ -162,7 +162,7 @@ one_before format octets len frames rest f a = record {
 none_before : (format : TcFormat) (octets : List ℕ) → begin_no_frame format octets ≡ true → IsTcDelimited format octets [] octets
 none_before format octets h = record { end_to_end = refl; each = tt; no_more = h }
 
-delimited_if : (format : TcFormat) (octets : List ℕ) → (IsFront format octets (stated_frame_len octets) → IsTcDelimited format (drop (stated_frame_len octets) octets) (tc_frames_of format (drop (stated_frame_len octets) octets)) (tc_remainder_of format (drop (stated_frame_len octets) octets)))
+delimited_if : (format : TcFormat) (octets : List ℕ) → (HasFrame format octets (stated_frame_len octets) → IsTcDelimited format (drop (stated_frame_len octets) octets) (tc_frames_of format (drop (stated_frame_len octets) octets)) (tc_remainder_of format (drop (stated_frame_len octets) octets)))
     → IsTcDelimited format octets (tc_frames_of format octets) (tc_remainder_of format octets)
 delimited_if format octets later =
     elim (cases_front format octets) [
@@ -193,10 +193,10 @@ delimited_once format recording frames remainder a =
 
 -- ---- one frame at the front, by its length
 
-pub front_some : (format : TcFormat) (octets : List ℕ) (len : ℕ) → front_len format octets ≡ Some len → IsFront format octets len
+pub front_some : (format : TcFormat) (octets : List ℕ) (len : ℕ) → front_len format octets ≡ Some len → HasFrame format octets len
 front_some format octets len h =
     elim (cases_front format octets) [
-      | inl (f, e) ↦ subst (IsFront format octets) (same_Some (stated_frame_len octets) len (sym e ∙ h)) f
+      | inl (f, e) ↦ subst (HasFrame format octets) (same_Some (stated_frame_len octets) len (sym e ∙ h)) f
       | inr (e, none) ↦ absurd (none-some len (sym none ∙ h))
     ]
 

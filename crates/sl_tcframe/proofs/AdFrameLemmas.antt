@@ -3,7 +3,7 @@ use Rattle.std.proofs.Common.{◌≡◌, ℕ, ◌+◌, ◌-◌, ◌<◌, ◌≤�
 use Rattle.std.proofs.lemmas.Bool.{eq-eqb, ne_eqb, le-ltb}
 use Rattle.sl_fields.specs.FecfField.{fecf_part}
 use Rattle.sl_fields.specs.Field.{packed}
-use Rattle.sl_fields.specs.TcHeader.{TcFields, FitsTcHeader, tc_header, tc_fields, tc_octets}
+use Rattle.sl_fields.specs.TcHeader.{TcFields, FitsTcHeader, ad_header, tc_header, tc_fields, tc_octets}
 use Rattle.sl_fields.proofs.FecfLemmas.{fecf_len_le, length-fecf_part, length-with_fecf, with_fecf_is_good}
 use Rattle.sl_fields.proofs.HeaderLayout.{reads_back}
 use Rattle.sl_fields.proofs.Octets.{length-octets_of}
@@ -14,20 +14,6 @@ use Rattle.sl_tcframe.specs.declared.tc_frame.TcSkip.TheVariants.{Fecf, Version,
 use Rattle.sl_tcframe.specs.TcFrame.{TcFormat, TcParts, ArePartsOf, Ad, tc_header_of, tc_parts_of, is_cut, content_of, unit_content, early_reason, read_as, tc_frame}
 use Rattle.sl_tcframe.specs.AdFrame.{FitAdFrame, ad_len, ad_frame}
 use Rattle.sl_tcframe.proofs.PartLemmas.{only_parts, parts_cut}
-
--- the header of a frame of type AD of `len` octets, which reads back
-abbrev ad_header : ℕ → ℕ → ℕ → ℕ → TcFields
-ad_header spacecraft vc ns len =
-    record {
-      version = 0;
-      bypass = false;
-      command = false;
-      spare = 0;
-      spacecraft = spacecraft;
-      vc = vc;
-      length = len - 1;
-      ns = ns;
-    }
 
 -- a data field of one octet or more under a header of type AD
 unit_is : (h : TcFields) (field : List ℕ) → h.bypass ≡ false → 0 < length field → unit_content h field ≡ Some (Ad h.ns field)
@@ -49,7 +35,7 @@ module _ (format : TcFormat) (spacecraft vc ns : ℕ) (unit : List ℕ) (fit : F
   len = ad_len format (length unit)
 
   abbrev h : TcFields
-  h = ad_header spacecraft vc ns len
+  h = ad_header spacecraft vc (len - 1) ns
 
   abbrev frame : List ℕ
   frame = ad_frame format spacecraft vc ns unit

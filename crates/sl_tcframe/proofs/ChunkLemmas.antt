@@ -4,12 +4,13 @@ use Rattle.std.specs.List.{concat}
 use Rattle.std.proofs.lemmas.Bool.Decides.{leb_tells}
 use Rattle.std.proofs.lemmas.List.{drop_at, take_at, take-append-drop}
 use Rattle.std.proofs.lemmas.List.Elements.{All-drop, All-get_or, All-take}
+use Rattle.std.proofs.lemmas.Option.{none-some}
 use Rattle.sl_fields.specs.Field.{IsOctets}
 use Rattle.sl_tcframe.specs.TcDelimited.{IsTcDelimited, front_len, tc_frames_of, tc_remainder_of}
 use Rattle.sl_tcframe.specs.TcFrame.{TcFormat, is_cut, stated_frame_len}
 use Rattle.sl_tcframe.specs.TcFraming.{BeginsWith, FrameFront, Incomplete, BelowLeast, WholeFrame, IsRest, len_by_four, front_of, TcFraming, YieldsFrame, YieldsNone, YieldsFrames, ended, yielded, paused, after_call, at_start, AnyChunksAreTaken, ChunksAreDelimited, FrontsAreFrames, NoneFollowsBelowLeast}
 use Rattle.sl_tcframe.proofs.DelimitedLemmas.{HasFrame, cases_front, cut_front, each_is_delimited, front_is, front_is_cut, front_some, frames_of-frame, frames_of-none, remainder_of-frame, remainder_of-none}
-use Rattle.sl_tcframe.proofs.FramingLemmas.{FrontIs, below_stays, fits_rest, four_state_it, front_below_least, front_tells, front_whole, len_by_four-append, rest_fits}
+use Rattle.sl_tcframe.proofs.FramingLemmas.{FrontIs, below_is_not_whole, below_stays, fits_rest, four_state_it, front_below_least, front_tells, front_whole, len_by_four-append, rest_fits}
 use Rattle.sl_tcframe.proofs.PartLemmas.{facts_cut}
 
 -- ---- the front
@@ -81,10 +82,7 @@ none_below format octets more each below =
 
 pub none_follows_below_least : NoneFollowsBelowLeast
 none_follows_below_least format octets more len each below begins =
-    absurd (apart_from (sym (none_below format octets more each below) ∙ front_begins format (octets ++ more) len begins))
-  where
-    apart_from : None ≡ Some len → ⊥
-    apart_from e = cc
+    none-some len (sym (none_below format octets more each below) ∙ front_begins format (octets ++ more) len begins)
 
 -- a whole front is a frame
 whole_is_cut : (format : TcFormat) (octets frame left : List ℕ) → octets ≡ frame ++ left → IsOctets frame → FrontIs format octets (WholeFrame (length frame))
@@ -144,10 +142,7 @@ yields_no_more : (f new : TcFraming) (chunks frames : List (List ℕ)) (behind :
     → YieldsFrames f chunks frames new behind → YieldsNoMore f chunks frames new behind
 yields_no_more f new chunks frames behind below four (ended f') = record { none = refl; rest = refl; behind_is = refl }
 yields_no_more f new chunks' frames' behind' below four (yielded f' new' chunk frame left behind chunks frames y later) =
-    absurd (apart (sym (below_stays f.format f.rest chunk below) ∙ y.whole))
-  where
-    apart : BelowLeast ≡ WholeFrame (length frame) → ⊥
-    apart e = cc
+    absurd (below_is_not_whole (length frame) (sym (below_stays f.format f.rest chunk below) ∙ y.whole))
 yields_no_more f new chunks' frames' behind' below four (paused f' new' chunk left behind chunks frames p later) =
     let now = below_stays f.format f.rest chunk below in
     let same : (after_call f chunk None).rest ≡ f.rest = rw now (take_at f.rest chunk 4 four) in
@@ -159,8 +154,9 @@ yields_no_more f new chunks' frames' behind' below four (paused f' new' chunk le
       behind_is = ap (λ l. l ++ behind) left_same ∙ ap (λ l. chunk ++ l) next.behind_is;
     }
 
-apart : (xs ys : List ℕ) → IsOctets (xs ++ ys) → (IsOctets xs) × (IsOctets ys)
-apart xs ys each = (
+-- both lists are octets
+both_octets : (xs ys : List ℕ) → IsOctets (xs ++ ys) → (IsOctets xs) × (IsOctets ys)
+both_octets xs ys each = (
   subst IsOctets (take_at xs ys (length xs) refl) (All-take (λ octet. octet < 256) (length xs) (xs ++ ys) each),
   subst IsOctets (drop_at xs ys (length xs) refl) (All-drop (λ octet. octet < 256) (length xs) (xs ++ ys) each),
 )
@@ -197,7 +193,7 @@ are_theirs f new chunks frames behind each is_rest (ended f') =
 are_theirs f new chunks' frames' behind' each is_rest (yielded f' new' chunk frame left behind chunks frames y later) =
     let parts : f.rest ++ (chunk ++ concat chunks) ≡ frame ++ (left ++ concat chunks) =
     sym (append_assoc f.rest chunk (concat chunks)) ∙ ap (λ l. l ++ concat chunks) y.parts ∙ append_assoc frame left (concat chunks) in
-    let both = apart frame (left ++ concat chunks) (subst IsOctets parts each) in
+    let both = both_octets frame (left ++ concat chunks) (subst IsOctets parts each) in
     let next = are_theirs (after_call f chunk (Some frame)) new (left ∷ chunks) frames behind both.1 (fits_rest f.format [] (inl (omega arith))) later in
     let cut = whole_is_cut f.format (f.rest ++ chunk) frame left y.parts both.0 (front_tells f.format (f.rest ++ chunk) (WholeFrame (length frame)) y.whole) in (
       ap (tc_frames_of f.format) parts ∙ frames_of-frame f.format frame (left ++ concat chunks) cut ∙ ap (λ l. frame ∷ l) next.0,

@@ -162,6 +162,7 @@ fn frame_len(shape: &TcShape, unit: usize) -> u16
     ensures least { 5 ≤ result }
     ensures most { result ≤ 1024 }
 {
+    // `TcShape::least`, written out: a proof knows the range of a format whose field it reads.
     let around = if shape.fecf { 7 } else { 5 };
     around + unit as u16
 }

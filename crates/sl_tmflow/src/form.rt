@@ -1,6 +1,6 @@
 //! The normal form of delivered packets, made piece by piece.
-ghost use Rattle.std.specs.Prelude.{◌≡◌, ◌≢◌, ◌+◌, ◌*◌, ◌<◌, ◌≤◌, ◌++◌, [], None, Some, length, take};
-ghost use Rattle.std.specs.Prelude.{IfOk, OnOk, OnErr, IfSome, IsTrue, IsFalse};
+ghost use Rattle.std.specs.Prelude.{◌≡◌, ◌≢◌, ◌+◌, ◌*◌, ◌<◌, ◌≤◌, ◌++◌, [], None, Some, length};
+ghost use Rattle.std.specs.Prelude.{take, IfOk, OnOk, OnErr, IfSome, IsTrue, IsFalse};
 ghost use Rattle.std.specs.List.{concat};
 ghost use Rattle.std.specs.Vec.{vec_len, vec_capacity};
 ghost use Rattle.sl_packet.specs.Packet.{longest_packet};

@@ -1,7 +1,8 @@
 //! The TM transfer frame, as it is read.
 ghost use Rattle.std.specs.Prelude.{◌≡◌, ◌-◌, ◌<◌, ◌≤◌, length, take, drop, if◌then◌else◌, Some};
 ghost use Rattle.std.specs.Prelude.{None};
-ghost use Rattle.sl_tmframe.specs.TmFrame.{tm_header_of, class_of, longest_field, skip_reason, IsInField};
+ghost use Rattle.sl_tmframe.specs.TmFrame.{tm_header_of, class_of, longest_field, skip_reason};
+ghost use Rattle.sl_tmframe.specs.TmFrame.{IsInField};
 ghost use Rattle.sl_tmframe.specs.TmField.{data_field};
 
 use crate::tm_shape::TmShape;

@@ -129,15 +129,15 @@ impl TcFramer {
         ensures none { IfNone result (YieldsNone self.old piece.old.now piece.new.now) }
         ensures stuck { StaysStuck self.old piece.old.now result piece.new.now }
     {
-        // `next_across` borrows a copy of the caller's reference to the octets. So the caller's own
-        // reference may stay in a register.
-        let mut octets: &'p [u8] = *piece;
         if self.rest().is_empty() {
-            if let Some((frame, later)) = split_frame(&self.shape, octets) {
+            if let Some((frame, later)) = split_frame(&self.shape, *piece) {
                 *piece = later;
                 return Some(frame);
             }
         }
+        // `next_across` borrows a copy of the caller's reference to the octets. So the caller's own
+        // reference may stay in a register.
+        let mut octets: &'p [u8] = *piece;
         let frame = self.next_across(&mut octets);
         *piece = octets;
         frame

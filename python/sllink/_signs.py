@@ -118,6 +118,7 @@ class Frames:
         self.fields: Counter[Channel] = counter()
         self.risen: Counter[int] = counter()
         self.secondary, self.access, self.followed = 0, 0, FOLLOWED * headed
+        self.turns = 0                                    # frames of another spacecraft than the one before
         self.steps: Counter[str] = counter()
         self.pairs: Counter[str] = counter()
         # By the octets after the data: packets that go on, or don't; frames whose end shows them, or doesn't (None).
@@ -129,6 +130,7 @@ class Frames:
     def take(self, stretch: Sequence[bytes]) -> None:
         last: Dict[int, int] = {}
         last_of: Dict[Channel, int] = {}
+        before: Optional[int] = None
         courses: Dict[Channel, Tuple[Course, Course]] = {}
         for frame in stretch:
             if frame[0] >> 6:
@@ -154,7 +156,8 @@ class Frames:
             if self.followed < FOLLOWED:
                 self.followed += 1
                 self.end(frame, is_next, courses.setdefault(vc, (Course(0), Course(2))))
-            last[key], last_of[vc] = frame[2], frame[3]
+            self.turns += before not in (None, key)
+            before, last[key], last_of[vc] = key, frame[2], frame[3]
 
     def end(self, frame: bytes, is_next: bool, courses: Tuple[Course, Course]) -> None:
         """Looks at what comes after the data of a frame."""

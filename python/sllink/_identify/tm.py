@@ -2,7 +2,7 @@
 
 from binascii import crc_hqx
 from collections import Counter
-from typing import Dict, Iterable, List, Optional, Sequence, Tuple
+from typing import Dict, Iterable, List, Optional, Sequence, Set, Tuple
 
 from .._signs import LONGEST, SHORTEST, Frames, by_control, inner, plain_evidence, right_fields, strides
 from .answer import (HEAD, WHOLE, Answer, Piece, RecordingFile, astray, field_line, frames_line, joined, listed,
@@ -12,15 +12,19 @@ from .tm_search import TmSearch
 
 FIRST, TRIED = 256, 24                                    # lengths that are looked at first; that are tried
 COMPLETED = 3                                             # lengths of which further places are read
+TURNS = 4                                                 # spacecraft whose frames come in turn
 
 
 def tm(recording: RecordingFile, head: bytes) -> List[Answer]:
     """What the recording is as TM frames, by each length that may fit: first those that error control speaks for, and
     then from the shortest on."""
     candidates: List[Tuple[bool, int, Frames]] = []
-    for stride, _, rows in sorted(strides(head), key=lambda it: -it[1] / it[2])[:FIRST]:
-        recording.look(min(rows, 64) * stride, 4 * min(rows, 64))
-        frames = [head[at:at + stride] for at in range(0, min(rows, 64) * stride, stride)]
+    found = {stride: rise / rows for stride, rise, rows in strides(head)}
+    lengths_of = sorted(found, key=lambda stride: -found[stride])[:FIRST]
+    for stride in lengths_of + sorted(in_turn(head, lengths_of[:TRIED]) - set(found)):
+        rows = min(len(head) // stride, 64)
+        recording.look(rows * stride, 4 * rows)
+        frames = [head[at:at + stride] for at in range(0, rows * stride, stride)]
         known = Frames([frames], stride, True)
         first = Frames([frames[:12]], stride, True)
         if known.checked() >= 2 or any(it.share >= 0.5 and it.rising()[1] >= 0.3 for it in (known, first)):
@@ -82,6 +86,19 @@ def shifted_tm(recording: RecordingFile, head: bytes, known: Sequence[Answer]) -
     return []
 
 
+def in_turn(head: bytes, lengths: Iterable[int]) -> Set[int]:
+    """Parts of these lengths that would be those of frames of several spacecraft in turn, where packets don't go on
+    from frame to frame of the whole length."""
+    found: Set[int] = set()
+    for length in lengths:
+        parts = {length // number for number in range(2, TURNS + 1) if length % number == 0} - found
+        end = min(12, len(head) // length) * length
+        follow = Frames([[head[at:at + length] for at in range(0, end, length)]], length).follow
+        if follow[0, True] < max(2, follow[0, False]):
+            found |= {part for part in parts if part >= SHORTEST}
+    return found
+
+
 def multiple(length: int, others: Iterable[int]) -> bool:
     """Whether the length is a multiple of another one."""
     return any(length % other == 0 for other in others)
@@ -92,7 +109,7 @@ def tm_answer(recording: RecordingFile, head: bytes, length: int, phase: int, fr
     """What a recording of TM frames of this length is, where it is one: by its head, or by further places too."""
     control = frames.checked() >= 2
     keys = [key for key, right in frames.right.items() if right] if control else (
-        spacecraft(head, frames) or frames.main)
+        frames.turns < 0.5 * frames.number and spacecraft(head, frames) or frames.main)
     search = TmSearch(recording, head, length, phase, keys, control, further)
     if search.others:
         search = TmSearch(recording, head, length, phase, [*keys, *search.others], control, further)

@@ -1,5 +1,5 @@
 //! The lines of a TC recording's listing.
-ghost use Rattle.std.specs.Prelude.{◌≡◌, ◌+◌, ◌≤◌, ◌<◌, ◌-◌, ◌++◌, ◌∷◌, [], List, codes, decimal, length};
+ghost use Rattle.std.specs.Prelude.{◌≡◌, ◌+◌, ◌≤◌, ◌<◌, ◌-◌, ◌++◌, ◌∷◌, [], List, codes, length};
 ghost use Rattle.sl_tcframe.specs.TcContent.{content};
 ghost use Rattle.sl_tcframe.specs.TcFrame.{IsContent, TcView};
 ghost use Rattle.sl_cop.specs.Farm.{farm_step};
@@ -120,27 +120,14 @@ fn push_unit(lines: &mut Lines, plain: bool, unit: &[u8])
 {
     if plain {
         lines.push(b" unit octets ");
-        push_octet_count(lines, unit.len());
+        lines.push_number(unit.len() as u64);
         return;
     }
     let (header, octets) = split_unit(unit);
     push_flags(lines, header.flags());
     lines.push_small_number(header.map());
     lines.push(b" octets ");
-    push_octet_count(lines, octets.len());
-}
-
-// Adds how many octets there are. Most units are short.
-fn push_octet_count(lines: &mut Lines, octets: usize)
-    requires { HasRoomFor number_width lines.old }
-    ensures text { lines.new ≡ lines.old ++ decimal octets }
-    ensures short { length lines.new ≤ length lines.old + number_width }
-{
-    if octets < 256 {
-        lines.push_small_number(octets as u8);
-    } else {
-        lines.push_number(octets as u64);
-    }
+    lines.push_number(octets.len() as u64);
 }
 
 // The segment header of a unit, and the octets after it.

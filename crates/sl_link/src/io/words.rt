@@ -56,7 +56,6 @@ pub fn push_tc_skip(lines: &mut Lines, reason: TcSkip)
 }
 
 /// Adds a verdict.
-#[cold]
 pub fn push_verdict(lines: &mut Lines, verdict: Verdict)
     requires { HasRoomFor number_width lines.old }
     ensures text { lines.new ≡ lines.old ++ (codes " " ++ verdict_word verdict) }

@@ -80,8 +80,8 @@ fn push_frame_verdict(lines: &mut Lines, verdict: Verdict)
 {
     match verdict {
         Verdict::Accept => lines.push(b" accept clcw "),
-        Verdict::Early | Verdict::Late | Verdict::Outside | Verdict::Refused | Verdict::Command => {
-            push_verdict(lines, verdict);
+        other => {
+            push_verdict(lines, other);
             lines.push(b" clcw ");
         }
     }

@@ -61,7 +61,6 @@ fn discards(verdict: Verdict) -> bool
 // The lines of the anomalies, in their order. Takes `found` by value and isn't inlined, so that a
 // frame without lines needn't store it (measured).
 #[cold]
-#[inline(never)]
 fn tc_found_lines(lines: &mut Lines, offset: u64, found: TcFound) -> u64
     requires { HasRoom lines.old }
     ensures text { lines.new ≡ lines.old ++ concat (tc_lines offset (Ok found)) }

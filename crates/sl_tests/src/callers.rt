@@ -1,7 +1,7 @@
 //! The callers, run.
 mod forms;
 
-use crate::support::cop::{all, farm, window, with};
+use crate::support::cop::window;
 use crate::support::packets::has;
 use crate::support::recordings::{COMMAND, LEAST, TC_FRAME, TELEMETRY, TM_FRAME};
 use crate::support::rows::{Stop, passes};
@@ -10,7 +10,7 @@ use crate::support::tm::{frame, shape};
 use sl_callers::extractor::deliver;
 use sl_callers::receiver::receive;
 use sl_callers::{next_step, two_steps};
-use sl_cop::{FarmEvent, Verdict};
+use sl_cop::{Farm, FarmEvent, Starts, Verdict};
 use std::alloc::Global;
 
 // `TM_FRAME` on virtual channel 1.
@@ -39,14 +39,14 @@ const LATE_ON_2: [u8; 12] = [
 
 // Whether a FARM-1 that is lent stays, and its next step is that of the table.
 fn is_left_as_it_was() -> Result<bool, Stop> {
-    let lent = farm(10, 255)?;
+    let lent = Farm::new(window(10)?, 255);
     let (verdict, next) = next_step(&lent, FarmEvent::Ad(255));
     Ok(verdict == Verdict::Accept && next.vr() == 0 && lent.vr() == 255)
 }
 
 // Whether the second of two frames is refused, since the first has locked FARM-1 out.
 fn is_decided() -> Result<bool, Stop> {
-    let lent = window(10).ok_or(Stop::Absent)?;
+    let lent = window(10)?;
     let verdicts = two_steps(&lent, 0, FarmEvent::Ad(5), FarmEvent::Ad(0));
     Ok(verdicts == (Verdict::Outside, Verdict::Refused))
 }
@@ -79,8 +79,8 @@ fn frames_one_after_another_deliver_their_packets(rt: HostRuntime) {
 
 // Whether frames of two virtual channels deliver what FARM-1 lets through, each packet on its MAP.
 fn are_received(alloc: Global) -> Result<bool, Stop> {
-    let window = window(10).ok_or(Stop::Absent)?;
-    let starts = with(&all(0), 2, 7);
+    let window = window(10)?;
+    let starts = Starts::all(0).with(2, 7);
     let shape = tc::shape(1024, false)?;
     let frames = [
         tc::frame(&shape, &TC_FRAME)?,

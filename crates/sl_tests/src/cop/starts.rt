@@ -1,7 +1,4 @@
 //! The initial V(R) of virtual channels, as they are given, changed and read.
-ghost use Rattle.std.specs.Prelude.{◌≤◌};
-
-use crate::support::cop::{all, start, with};
 use crate::support::rows::holds;
 use sl_cop::Starts;
 
@@ -101,10 +98,10 @@ static NO_TEXTS: [&str; 56] = [
 
 // The same V(R) for all virtual channels but these.
 fn all_but(vr: u8, pairs: &[(u8, u8)]) -> Starts {
-    let mut starts = all(vr);
+    let mut starts = Starts::all(vr);
     for (vc, vr) in pairs {
         if *vc <= 63 {
-            starts = with(&starts, *vc, *vr);
+            starts = starts.with(*vc, *vr);
         }
     }
     starts
@@ -123,60 +120,50 @@ fn listed(vr: u8, pairs: &[(u8, u8)], wanted: u8) -> u8 {
 // Whether each virtual channel has the V(R) that is listed.
 fn have(starts: &Starts, vr: u8, pairs: &[(u8, u8)]) -> bool {
     for vc in 0..64 {
-        if start(starts, vc) != listed(vr, pairs, vc) {
+        if starts.start(vc) != listed(vr, pairs, vc) {
             return false;
         }
     }
     true
 }
 
-// Whether the V(R) of one virtual channel alone is changed, in a copy, and can be changed back.
-fn is_changed(vc: u8) -> bool
-    requires { vc ≤ 63 }
-{
-    let all = all(9);
-    let starts = with(&all, vc, 255);
-    have(&starts, 9, &[(vc, 255)]) && have(&all, 9, &[]) && with(&starts, vc, 9) == all
-}
-
+// The V(R) of all virtual channels, of all but two, and of one changed alone, in a copy, which can
+// be changed back.
 #[test]
 fn v_of_r_of_virtual_channels(rt: HostRuntime) {
     for vr in &[0, 1, 57, 255] {
-        holds(&rt, vr, have(&all(*vr), *vr, &[]));
-    }
-    for vc in 0..64 {
-        holds(&rt, &vc, is_changed(vc));
+        holds(&rt, vr, have(&Starts::all(*vr), *vr, &[]));
     }
     let starts = all_but(9, LEAST_AND_GREATEST);
-    holds(
-        &rt,
-        &LEAST_AND_GREATEST,
-        have(&starts, 9, LEAST_AND_GREATEST),
-    );
-    holds(&rt, &"0 and 1", all(0) != all(1));
-}
-
-// Whether a text changes the first to these, and leaves what is read over as it was.
-fn reads_as(vr: u8, pairs: &[(u8, u8)], text: &str, wanted: &[(u8, u8)]) -> bool {
-    let starts = all_but(vr, pairs);
-    match starts.read(text) {
-        Some(read) => {
-            read == all_but(vr, wanted) && have(&read, vr, wanted) && have(&starts, vr, pairs)
-        }
-        None => false,
+    let is_so = have(&starts, 9, LEAST_AND_GREATEST);
+    holds(&rt, &LEAST_AND_GREATEST, is_so);
+    holds(&rt, &"0 and 1", Starts::all(0) != Starts::all(1));
+    for vc in 0..64 {
+        let all = Starts::all(9);
+        let starts = all.with(vc, 255);
+        let is_back = starts.with(vc, 9) == all;
+        holds(
+            &rt,
+            &vc,
+            have(&starts, 9, &[(vc, 255)]) && have(&all, 9, &[]) && is_back,
+        );
     }
 }
 
-fn is_no_text(text: &str) -> bool {
-    all(0).read(text).is_none()
-}
-
+// A text changes the first to those wanted, and leaves what is read over as it was.
 #[test]
 fn v_of_r_by_a_text(rt: HostRuntime) {
     for (vr, pairs, text, wanted) in &TEXTS {
-        holds(&rt, text, reads_as(*vr, pairs, text, wanted));
+        let starts = all_but(*vr, pairs);
+        let is_read = starts.read(text) == Some(all_but(*vr, wanted));
+        holds(
+            &rt,
+            text,
+            is_read && have(&all_but(*vr, wanted), *vr, wanted),
+        );
+        holds(&rt, text, have(&starts, *vr, pairs));
     }
     for text in &NO_TEXTS {
-        holds(&rt, text, is_no_text(text));
+        holds(&rt, text, Starts::all(0).read(text).is_none());
     }
 }

@@ -1,7 +1,7 @@
 //! TC frames, what FARM-1 answers to them, and what they bring.
 ghost use Rattle.std.specs.Prelude.{◌≤◌};
 
-use super::cop;
+use super::cop::window;
 use super::packets::delivered_of;
 use super::rows::Stop;
 use sl_cop::{Starts, Verdict};
@@ -28,24 +28,12 @@ pub fn frame<'a>(shape: &TcShape, octets: &'a [u8]) -> Result<TcFrame<'a>, Stop>
     read(shape, octets)?.or(Err(Stop::Absent))
 }
 
-/// No virtual channels.
-pub fn no_channels() -> VcSet {
-    VcSet::new()
-}
-
-/// These virtual channels, and one more.
-pub fn with_channel(channels: &VcSet, vc: u8) -> VcSet
-    requires { vc ≤ 63 }
-{
-    channels.with(vc)
-}
-
 /// The set of these virtual channels.
 pub fn set_of(channels: &[u8]) -> VcSet {
-    let mut set = no_channels();
+    let mut set = VcSet::new();
     for vc in channels {
         if *vc <= 63 {
-            set = with_channel(&set, *vc);
+            set = set.with(*vc);
         }
     }
     set
@@ -53,19 +41,19 @@ pub fn set_of(channels: &[u8]) -> VcSet {
 
 /// A receiver with a window of 10, this V(R) and segment headers on each virtual channel.
 pub fn receiver(alloc: Global, vr: u8) -> Result<Receiver, Stop> {
-    receiver_with(alloc, &cop::all(vr), no_channels())
+    receiver_with(alloc, &Starts::all(vr), VcSet::new())
 }
 
 /// The same with these V(R), and without segment headers on these virtual channels.
 pub fn receiver_with(alloc: Global, starts: &Starts, plain: VcSet) -> Result<Receiver, Stop> {
-    let window = cop::window(10).ok_or(Stop::Absent)?;
+    let window = window(10)?;
     Ok(Receiver::new(alloc, window, starts, plain))
 }
 
 /// FARM-1 of each virtual channel, with a window of 10 and this V(R).
 pub fn farms(vr: u8) -> Result<Farms, Stop> {
-    let window = cop::window(10).ok_or(Stop::Absent)?;
-    Ok(Farms::new(window, &cop::all(vr)))
+    let window = window(10)?;
+    Ok(Farms::new(window, &Starts::all(vr)))
 }
 
 /// What a receiver answers to a frame of spacecraft 1.

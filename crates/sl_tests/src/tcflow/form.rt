@@ -1,11 +1,12 @@
 //! The normal form piece by piece.
-use crate::support::cop::all;
 use crate::support::packets::{delivered_of, longest};
 use crate::support::recordings::{COMMAND, LEAST};
 use crate::support::rows::{Stop, passes};
-use crate::support::tc::{is_form, no_channels, shape};
+use crate::support::tc::{is_form, shape};
+use sl_cop::Starts;
 use sl_packet::Delivered;
 use sl_tcflow::{PIECE_ROOM, TcForm, fits_tc};
+use sl_tcframe::VcSet;
 use std::alloc::{AllocError, Global};
 
 // Packets on the first two MAPs of virtual channel 0, and on those of other virtual channels.
@@ -24,11 +25,11 @@ const LENS: [usize; 6] = [13, 16, 13, 16, 13, 16];
 // The form in frames of at most 16 octets, with segment headers and the same V(R) everywhere.
 fn pieces_of<'d>(fecf: bool, vr: u8, delivered: &'d Delivered) -> Result<TcForm<'d>, Stop> {
     let shape = shape(16, fecf)?;
-    let plain = no_channels();
+    let plain = VcSet::new();
     if !fits_tc(&shape, &plain, delivered) {
         return Err(Stop::Absent);
     }
-    Ok(TcForm::new(shape, 1, all(vr), plain, delivered))
+    Ok(TcForm::new(shape, 1, Starts::all(vr), plain, delivered))
 }
 
 // Adds the next piece to the form: whether it has this number of octets.
@@ -64,7 +65,7 @@ fn are_form(alloc: Global) -> Result<bool, Stop> {
     let mut pieces = pieces_of(false, 254, &delivered)?;
     let mut form = Vec::new(alloc);
     let are_all = add_pieces(alloc, &mut pieces, &LENS, &mut form)?;
-    let channels = (&all(254), &no_channels());
+    let channels = (&Starts::all(254), &VcSet::new());
     Ok(are_all && is_form(alloc, (16, false), channels, &PACKETS, &form)?)
 }
 

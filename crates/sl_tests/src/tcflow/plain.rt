@@ -1,12 +1,11 @@
 //! Virtual channels without segment headers.
-use crate::support::cop::all;
 use crate::support::packets::{Packets, are_all, delivered_of, none};
 use crate::support::recordings::{COMMAND, LEAST};
 use crate::support::rows::{Stop, passes};
 use crate::support::tc::{
     anomalies, clcw, counts, held, is_form, receiver_with, set_of, shape, step_of,
 };
-use sl_cop::Verdict;
+use sl_cop::{Starts, Verdict};
 use sl_packet::Delivered;
 use sl_tcflow::{Receiver, fits_tc};
 use std::alloc::Global;
@@ -148,7 +147,7 @@ fn holds_nothing(receiver: &Receiver, word: &[u8; 4]) -> bool {
 // Whether each report is right, and so are the packets and the CLCW after the last frame.
 fn is_so(rt: &impl Abort, alloc: Global, case: &Case) -> Result<bool, Stop> {
     let (_, plain, frames, packets, word) = case;
-    let mut receiver = receiver_with(alloc, &all(0), set_of(plain))?;
+    let mut receiver = receiver_with(alloc, &Starts::all(0), set_of(plain))?;
     let mut delivered = none(alloc);
     for row in *frames {
         passes(rt, row, is_told(&mut receiver, &mut delivered, row));
@@ -177,7 +176,7 @@ fn fit(
 }
 
 fn have(alloc: Global, packets: &[(u16, &[u8])], form: &[u8]) -> Result<bool, Stop> {
-    let channels = (&all(0), &set_of(&[5]));
+    let channels = (&Starts::all(0), &set_of(&[5]));
     is_form(alloc, (24, false), channels, packets, form)
 }
 

@@ -3,7 +3,6 @@ use super::{
     AGAIN_ON_2, FIRST_OF_3, FIRST_ON_1, FIRST_ON_2, LAST_OF_3, LAST_ON_1, LAST_ON_2, MIDDLE_OF_3,
     STRAY_ON_1,
 };
-use crate::support::cop;
 use crate::support::packets::{Packets, are_all, none};
 use crate::support::recordings::{COMMAND, LEAST, LONGER, TC_FRAME};
 use crate::support::rows::{Stop, passes};
@@ -11,7 +10,7 @@ use crate::support::sinks::Counts;
 use crate::support::tc::{
     clcw, farms, frame, received, receiver, receiver_with, set_of, shape, step_of,
 };
-use sl_cop::Verdict;
+use sl_cop::{Starts, Verdict};
 use sl_packet::Delivered;
 use sl_tcflow::{Farms, Receiver};
 use std::alloc::Global;
@@ -222,7 +221,7 @@ static MAPS: [Mapped; 5] = [
 fn has_map(alloc: Global, row: &Mapped) -> Result<bool, Stop> {
     let (frame, is_plain, map) = row;
     let plain: &[u8] = if *is_plain { &[0] } else { &[] };
-    let mut receiver = receiver_with(alloc, &cop::all(0), set_of(plain))?;
+    let mut receiver = receiver_with(alloc, &Starts::all(0), set_of(plain))?;
     let step = step_of(&mut receiver, frame, &mut Counts { packets: 0 })?;
     Ok(step.map() == *map)
 }

@@ -1,11 +1,12 @@
 //! The normal form of known packets.
-use crate::support::cop::all;
 use crate::support::packets::{has, longest, none};
 use crate::support::recordings::{COMMAND, LEAST, LONGER, TC_FRAME};
 use crate::support::rows::{Stop, holds, passes};
-use crate::support::tc::{form_of, is_form, no_channels, received, receiver, shape};
+use crate::support::tc::{form_of, is_form, received, receiver, shape};
+use sl_cop::Starts;
 use sl_packet::Delivered;
 use sl_tcflow::Receiver;
+use sl_tcframe::VcSet;
 use std::alloc::Global;
 use std::process::Abort;
 
@@ -103,7 +104,7 @@ const LAST_OF_LONGEST: [u8; 8] = [0x00, 0x01, 0x00, 0x07, 0x9A, 0x80, 0x33, 0x33
 // Whether packets have this form.
 fn have(alloc: Global, row: &Row) -> Result<bool, Stop> {
     let (format, vr, packets, wanted) = row;
-    let channels = (&all(*vr), &no_channels());
+    let channels = (&Starts::all(*vr), &VcSet::new());
     is_form(alloc, *format, channels, packets, wanted)
 }
 
@@ -147,7 +148,13 @@ fn is_received(alloc: Global, form: &[u8], packet: &[u8]) -> Result<bool, Stop> 
 
 fn form_of_longest(alloc: Global, longest: &[u8]) -> Result<Vec<u8>, Stop> {
     let shape = shape(16, false)?;
-    form_of(alloc, &shape, &all(0), &no_channels(), &[(0, longest)])
+    form_of(
+        alloc,
+        &shape,
+        &Starts::all(0),
+        &VcSet::new(),
+        &[(0, longest)],
+    )
 }
 
 fn longest_is_received(rt: &impl Abort, alloc: Global) -> Result<bool, Stop> {

@@ -1,14 +1,14 @@
 //! Virtual channels that begin with a V(R) of their own.
 ghost use Rattle.std.specs.Prelude.{◌≤◌};
 
-use crate::support::cop::{all, with};
 use crate::support::packets::{has, none};
 use crate::support::recordings::LEAST;
 use crate::support::rows::{Stop, holds, passes};
-use crate::support::tc::{clcw, is_form, no_channels, received, receiver_with, set_of};
+use crate::support::tc::{clcw, is_form, received, receiver_with, set_of};
 use sl_cop::{Starts, Verdict};
 use sl_packet::Delivered;
 use sl_tcflow::Receiver;
+use sl_tcframe::VcSet;
 use std::alloc::Global;
 use std::process::Abort;
 
@@ -58,7 +58,7 @@ const PACKETS: [(u16, &[u8]); 3] = [(384, &LEAST), (320, &LEAST), (0, &LEAST)];
 
 // V(R) 0 for all virtual channels but two.
 fn starts() -> Starts {
-    with(&with(&all(0), 5, 255), 6, 1)
+    Starts::all(0).with(5, 255).with(6, 1)
 }
 
 // Whether a virtual channel reports the V(R) that it begins with.
@@ -86,7 +86,7 @@ fn is_brought(
 
 // Whether the V(R) of virtual channel 5 goes on from 255 to 0.
 fn goes_on(rt: &impl Abort, alloc: Global) -> Result<bool, Stop> {
-    let mut receiver = receiver_with(alloc, &starts(), no_channels())?;
+    let mut receiver = receiver_with(alloc, &starts(), VcSet::new())?;
     let mut delivered = none(alloc);
     for vc in 0..64 {
         holds(rt, &vc, reports(&receiver, vc));

@@ -1,6 +1,4 @@
 //! CLCWs.
-ghost use Rattle.std.specs.Prelude.{◌≤◌};
-
 use crate::support::rows::holds;
 use sl_fields::Clcw;
 
@@ -76,23 +74,6 @@ const BEYOND: [(&str, Fields); 7] = [
     ),
 ];
 
-fn fields(clcw: &Clcw) -> Fields {
-    (
-        (clcw.word(), clcw.version(), clcw.status(), clcw.cop()),
-        (clcw.vc(), clcw.spare()),
-        (
-            clcw.no_rf(),
-            clcw.no_lock(),
-            clcw.lockout(),
-            clcw.wait(),
-            clcw.retransmit(),
-            clcw.farm_b(),
-            clcw.spare_end(),
-        ),
-        clcw.report(),
-    )
-}
-
 fn new(fields: &Fields) -> Option<Clcw> {
     let ((word, version, status, cop), (vc, spare), flags, report) = *fields;
     let (no_rf, no_lock, lockout, wait, retransmit, farm_b, spare_end) = flags;
@@ -102,41 +83,35 @@ fn new(fields: &Fields) -> Option<Clcw> {
     )
 }
 
-// Whether a CLCW is made of these fields, and is written as these octets.
-fn is_made(clcw: &Clcw, octets: &[u8; 4], fields: &Fields) -> bool {
-    match new(fields) {
-        Some(made) => made == *clcw && made.write() == *octets,
-        None => false,
-    }
+// The fields of the CLCW of these octets.
+fn fields(clcw: &Clcw) -> Fields {
+    let flags = (
+        clcw.no_rf(),
+        clcw.no_lock(),
+        clcw.lockout(),
+        clcw.wait(),
+        clcw.retransmit(),
+        clcw.farm_b(),
+        clcw.spare_end(),
+    );
+    let kind = (clcw.word(), clcw.version(), clcw.status(), clcw.cop());
+    (kind, (clcw.vc(), clcw.spare()), flags, clcw.report())
 }
 
-// Whether the CLCW of these octets has these fields, is made of them, and is written as read.
-fn is_known(octets: &[u8; 4], wanted: &Fields) -> bool {
-    let clcw = Clcw::read(octets);
-    fields(&clcw) == *wanted && clcw.write() == *octets && is_made(&clcw, octets, wanted)
-}
-
-fn of_farm(vc: u8, lockout: bool, retransmit: bool, farm_b: u8, report: u8) -> [u8; 4]
-    requires vc { vc ≤ 63 }
-    requires farm_b { farm_b ≤ 3 }
-{
-    Clcw::of_farm(vc, lockout, retransmit, farm_b, report).write()
-}
-
+// The CLCW of known octets has its fields, is made of them, and is written as read. A field beyond
+// its bits has none. That of a state of FARM-1 has the flags and numbers of the state.
 #[test]
 fn clcws(rt: HostRuntime) {
-    for (octets, fields) in &KNOWN {
-        holds(&rt, octets, is_known(octets, fields));
+    for (octets, wanted) in &KNOWN {
+        let clcw = Clcw::read(octets);
+        let is_made = clcw.write() == *octets && new(wanted) == Some(clcw);
+        holds(&rt, octets, fields(&clcw) == *wanted && is_made);
     }
     for (field, fields) in &BEYOND {
         holds(&rt, field, new(fields).is_none());
     }
-}
-
-#[test]
-fn clcws_of_states_of_farm_1(rt: HostRuntime) {
-    let octets = of_farm(0, true, true, 0, 5);
+    let octets = Clcw::of_farm(0, true, true, 0, 5).write();
     holds(&rt, &octets, octets == [0x01, 0x00, 0x28, 0x05]);
-    let octets = of_farm(63, false, false, 3, 255);
-    holds(&rt, &octets, octets == [0x01, 0xFC, 0x06, 0xFF]);
+    let most = Clcw::of_farm(63, false, false, 3, 255).write();
+    holds(&rt, &most, most == [0x01, 0xFC, 0x06, 0xFF]);
 }

@@ -1,6 +1,4 @@
 //! The first and the last of octets, and numbers of one octet as text.
-ghost use Rattle.std.specs.Prelude.{◌≤◌, length};
-
 use crate::support::rows::holds;
 use sl_fields::{back, front, read_decimal};
 
@@ -21,32 +19,15 @@ static NUMBERS: [(&str, Option<u8>); 14] = [
     ("0x5", None),
 ];
 
-fn first_two(octets: &[u8]) -> (&[u8; 2], &[u8])
-    requires { 2 ≤ length octets.now }
-{
-    front::<2>(octets)
-}
-
-fn last_two(octets: &[u8]) -> (&[u8], &[u8; 2])
-    requires { 2 ≤ length octets.now }
-{
-    back::<2>(octets)
-}
-
-fn number(text: &str) -> Option<u8> {
-    read_decimal(text)
-}
-
 #[test]
-fn ends_of_octets(rt: HostRuntime) {
+fn ends_of_octets_and_numbers_of_one_octet(rt: HostRuntime) {
     let octets = [1, 2, 3];
-    holds(&rt, &"the first", first_two(&octets) == (&[1, 2], &[3][..]));
-    holds(&rt, &"the last", last_two(&octets) == (&[1][..], &[2, 3]));
-}
-
-#[test]
-fn decimal_numbers_of_one_octet(rt: HostRuntime) {
+    let (first, rest) = front::<2>(&octets);
+    holds(&rt, &"the first", (first, rest) == (&[1, 2], &[3][..]));
+    let (rest, last) = back::<2>(&octets);
+    holds(&rt, &"the last", (rest, last) == (&[1][..], &[2, 3]));
     for (text, wanted) in &NUMBERS {
-        holds(&rt, text, number(text) == *wanted);
+        let number: Option<u8> = read_decimal(text);
+        holds(&rt, text, number == *wanted);
     }
 }

@@ -52,26 +52,28 @@ static FAULTS: [(ShapeFault, &str); 2] = [
     (ShapeFault::TcLength, "tc length"),
 ];
 
-// The error control field of octets, as a number.
-fn of(octets: &[u8]) -> u16 {
-    fecf(octets)
-}
-
-// The same as octets.
-fn field_of(octets: &[u8]) -> [u8; 2] {
-    fecf_field(octets)
-}
-
-fn is_good(octets: &[u8]) -> bool {
-    fecf_good(octets)
-}
-
-// The octets that an error control field covers, of a frame that has one or not.
-fn covered(has_fecf: bool, octets: &[u8]) -> &[u8] {
-    if octets.len() < 2 {
-        return octets;
+// The error control field of known octets, as a number and as octets; whether frames have theirs,
+// and what it covers; and why a format is refused.
+#[test]
+fn error_control_fields_of_known_octets(rt: HostRuntime) {
+    for (octets, wanted) in &KNOWN {
+        holds(&rt, octets, fecf(octets) == *wanted);
     }
-    without_fecf(has_fecf, octets)
+    holds(&rt, &BEFORE, fecf_field(&BEFORE) == [0x0E, 0x5D]);
+    holds(&rt, &"no octets", fecf_field(&[]) == [0xFF, 0xFF]);
+    for (name, frame, field, wanted) in &FIELDS {
+        holds(&rt, name, fecf_good(&protected(frame, field)) == *wanted);
+    }
+    for octets in &TOO_FEW {
+        holds(&rt, octets, !fecf_good(octets));
+    }
+    for (has_fecf, octets, wanted) in &COVERED {
+        let covered = octets.len() >= 2 && without_fecf(*has_fecf, octets) == *wanted;
+        holds(&rt, octets, covered);
+    }
+    for (fault, text) in &FAULTS {
+        passes(&rt, text, is_text(rt.alloc(), fault, text));
+    }
 }
 
 // The division goes on by eight bits.
@@ -87,49 +89,25 @@ fn after_eight_bits(mut register: u16) -> u16 {
     register
 }
 
-#[test]
-fn error_control_fields_of_known_octets(rt: HostRuntime) {
-    for (octets, wanted) in &KNOWN {
-        holds(&rt, octets, of(octets) == *wanted);
-    }
-}
-
 // The preset is added to the first two octets of a message. So the complement of an octet, alone in
-// a message, gives the octet's word, but for the `FF` that is left of the preset.
-fn word_of(octet: u8) -> u16 {
-    of(&[octet ^ 0xFF]) ^ 0xFF00
-}
-
+// a message, gives the octet's word, but for the `FF` that is left of the preset; and so does an
+// octet at a place of three slices of sixteen octets, with `FFFF` against the preset, moved on by
+// the octets that come after it.
 #[test]
 fn one_octet_gives_its_word(rt: HostRuntime) {
-    for octet in 0..=255u8 {
-        let word = after_eight_bits(u16::from(octet) << 8);
-        holds(&rt, &octet, word_of(octet) == word);
-    }
     for (octet, word) in &WORDS {
-        holds(&rt, octet, word_of(*octet) == *word);
+        holds(&rt, octet, fecf(&[*octet ^ 0xFF]) ^ 0xFF00 == *word);
     }
-}
-
-// Three slices of sixteen octets, with `FFFF` against the preset, and with an octet at one place.
-fn slices_with(octet: u8, place: usize) -> [u8; 48] {
-    let mut slices = [0; 48];
-    slices[0] = 0xFF;
-    slices[1] = 0xFF;
-    if let Some(place) = slices.get_mut(place) {
-        *place ^= octet;
-    }
-    slices
-}
-
-// So the octet gives its word, moved on by the octets that come after it.
-#[test]
-fn one_octet_at_each_place_of_three_slices_gives_its_word(rt: HostRuntime) {
     for octet in 0..=255u8 {
-        let mut word = u16::from(octet) << 8;
+        let mut word = after_eight_bits(u16::from(octet) << 8);
+        holds(&rt, &octet, fecf(&[octet ^ 0xFF]) ^ 0xFF00 == word);
         for place in (0..48usize).rev() {
+            let mut slices = [0; 48];
+            slices[0] = 0xFF;
+            slices[1] = 0xFF;
+            slices[place] ^= octet;
+            holds(&rt, &(octet, place), fecf(&slices) == word);
             word = after_eight_bits(word);
-            holds(&rt, &(octet, place), of(&slices_with(octet, place)) == word);
         }
     }
 }
@@ -139,35 +117,9 @@ fn error_control_fields_bit_by_bit_of_messages_of_up_to_nine_slices(rt: HostRunt
     let mut message = [0; 150];
     let mut register = 0xFFFF;
     for place in 0..150usize {
-        holds(&rt, &place, of(&message[..place]) == register);
+        holds(&rt, &place, fecf(&message[..place]) == register);
         let octet = (place * 83 % 251) as u8;
         message[place] = octet;
         register = after_eight_bits(register ^ (u16::from(octet) << 8));
-    }
-}
-
-#[test]
-fn frames_with_and_without_their_error_control_field(rt: HostRuntime) {
-    for (name, frame, field, wanted) in &FIELDS {
-        holds(&rt, name, is_good(&protected(frame, field)) == *wanted);
-    }
-    for octets in &TOO_FEW {
-        holds(&rt, octets, !is_good(octets));
-    }
-}
-
-#[test]
-fn octets_with_and_without_their_field(rt: HostRuntime) {
-    holds(&rt, &BEFORE, field_of(&BEFORE) == [0x0E, 0x5D]);
-    holds(&rt, &"no octets", field_of(&[]) == [0xFF, 0xFF]);
-    for (has_fecf, octets, wanted) in &COVERED {
-        holds(&rt, octets, covered(*has_fecf, octets) == *wanted);
-    }
-}
-
-#[test]
-fn a_fault_has_its_text(rt: HostRuntime) {
-    for (fault, text) in &FAULTS {
-        passes(&rt, text, is_text(rt.alloc(), fault, text));
     }
 }

@@ -1,6 +1,4 @@
 //! Packet headers.
-ghost use Rattle.std.specs.Prelude.{◌≤◌};
-
 use crate::support::rows::holds;
 use sl_fields::PacketHeader;
 
@@ -39,51 +37,32 @@ const BEYOND: [(&str, Fields); 5] = [
     ("count", ((0, 0, false, 0), (0, 16384), 0)),
 ];
 
-fn fields(header: &PacketHeader) -> Fields {
-    (
-        (
-            header.version(),
-            header.kind(),
-            header.secondary(),
-            header.apid(),
-        ),
-        (header.flags(), header.count()),
-        header.length(),
-    )
-}
-
 fn new(fields: &Fields) -> Option<PacketHeader> {
     let ((version, kind, secondary, apid), (flags, count), length) = *fields;
     PacketHeader::new(version, kind, secondary, apid, flags, count, length)
 }
 
-// Whether the header of these octets has these fields, is made of them, and is written as read.
-fn is_known(octets: &[u8; 6], wanted: &Fields) -> bool {
-    let header = PacketHeader::read(octets);
-    fields(&header) == *wanted && header.write() == *octets && new(wanted) == Some(header)
-}
-
-fn telemetry(apid: u16, count: u16, length: u16) -> [u8; 6]
-    requires apid { apid ≤ 2047 }
-    requires count { count ≤ 16383 }
-{
-    PacketHeader::of_telemetry(apid, count, length).write()
-}
-
+// The header of known octets has its fields, is made of them, and is written as read. A field
+// beyond its bits has none. A header of telemetry has the least and the greatest of its fields.
 #[test]
 fn packet_headers(rt: HostRuntime) {
-    for (octets, fields) in &KNOWN {
-        holds(&rt, octets, is_known(octets, fields));
+    for (octets, wanted) in &KNOWN {
+        let header = PacketHeader::read(octets);
+        let kind = (
+            header.version(),
+            header.kind(),
+            header.secondary(),
+            header.apid(),
+        );
+        let fields = (kind, (header.flags(), header.count()), header.length());
+        let is_made = header.write() == *octets && new(wanted) == Some(header);
+        holds(&rt, octets, fields == *wanted && is_made);
     }
     for (field, fields) in &BEYOND {
         holds(&rt, field, new(fields).is_none());
     }
-    let least = telemetry(1, 0, 3);
+    let least = PacketHeader::of_telemetry(1, 0, 3).write();
     holds(&rt, &least, least == [0x00, 0x01, 0xC0, 0x00, 0x00, 0x03]);
-    let greatest = telemetry(2047, 16383, 65535);
-    holds(
-        &rt,
-        &greatest,
-        greatest == [0x07, 0xFF, 0xFF, 0xFF, 0xFF, 0xFF],
-    );
+    let most = PacketHeader::of_telemetry(2047, 16383, 65535).write();
+    holds(&rt, &most, most == [0x07, 0xFF, 0xFF, 0xFF, 0xFF, 0xFF]);
 }

@@ -1,6 +1,4 @@
 //! Segment headers.
-ghost use Rattle.std.specs.Prelude.{◌≤◌};
-
 use crate::support::rows::holds;
 use sl_fields::SegmentHeader;
 
@@ -23,52 +21,31 @@ const PLACES: [(bool, bool, u8); 4] = [
     (false, true, 0x82),
 ];
 
-// Sequence flags and MAP.
-fn fields(octet: u8) -> (u8, u8) {
+// Whether a header has these sequence flags and this MAP, is made of them, and is written as read.
+fn has(octet: u8, (flags, map): (u8, u8)) -> bool {
     let header = SegmentHeader::read(&[octet]);
-    (header.flags(), header.map())
+    let is_made = SegmentHeader::new(flags, map) == Some(header) && header.write() == [octet];
+    is_made && (header.flags(), header.map()) == (flags, map)
 }
 
-fn new((flags, map): (u8, u8)) -> Option<SegmentHeader> {
-    SegmentHeader::new(flags, map)
-}
-
-// Whether the header of an octet is made of these fields, and is written as it was read.
-fn is_made(octet: u8, fields: (u8, u8)) -> bool {
-    let header = SegmentHeader::read(&[octet]);
-    header.write() == [octet] && new(fields) == Some(header)
-}
-
-fn segment(first: bool, last: bool, map: u8) -> [u8; 1]
-    requires { map ≤ 63 }
-{
-    SegmentHeader::of_segment(first, last, map).write()
-}
-
+// Each octet is a header: that of its two highest bits and its six others.
 #[test]
 fn segment_headers(rt: HostRuntime) {
-    for (octet, wanted) in &KNOWN {
+    for (octet, fields) in &KNOWN {
+        holds(&rt, octet, has(*octet, *fields));
+    }
+    for octet in 0..=255u8 {
+        holds(&rt, &octet, has(octet, (octet >> 6, octet & 63)));
+    }
+    for (flags, map) in &BEYOND {
         holds(
             &rt,
-            octet,
-            fields(*octet) == *wanted && is_made(*octet, *wanted),
+            &(flags, map),
+            SegmentHeader::new(*flags, *map).is_none(),
         );
     }
-    for fields in &BEYOND {
-        holds(&rt, fields, new(*fields).is_none());
-    }
-}
-
-#[test]
-fn each_octet_is_a_segment_header(rt: HostRuntime) {
-    for octet in 0..=255 {
-        holds(&rt, &octet, is_made(octet, fields(octet)));
-    }
-}
-
-#[test]
-fn headers_of_segments_by_their_place(rt: HostRuntime) {
     for (first, last, octet) in &PLACES {
-        holds(&rt, octet, segment(*first, *last, 2) == [*octet]);
+        let header = SegmentHeader::of_segment(*first, *last, 2);
+        holds(&rt, octet, header.write() == [*octet]);
     }
 }

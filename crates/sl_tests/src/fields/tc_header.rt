@@ -1,6 +1,4 @@
 //! TC headers.
-ghost use Rattle.std.specs.Prelude.{◌≤◌};
-
 use crate::support::rows::holds;
 use sl_fields::TcHeader;
 
@@ -43,52 +41,33 @@ const BEYOND: [(&str, Fields); 5] = [
     ("length", ((0, false, false, 0), (0, 0), (1024, 0))),
 ];
 
-fn fields(header: &TcHeader) -> Fields {
-    (
-        (
-            header.version(),
-            header.bypass(),
-            header.command(),
-            header.spare(),
-        ),
-        (header.spacecraft(), header.vc()),
-        (header.length(), header.ns()),
-    )
-}
-
 fn new(fields: &Fields) -> Option<TcHeader> {
     let ((version, bypass, command, spare), (spacecraft, vc), (length, ns)) = *fields;
     TcHeader::new(version, bypass, command, spare, spacecraft, vc, length, ns)
 }
 
-// Whether the header of these octets has these fields, is made of them, and is written as read.
-fn is_known(octets: &[u8; 5], wanted: &Fields) -> bool {
-    let header = TcHeader::read(octets);
-    fields(&header) == *wanted && header.write() == *octets && new(wanted) == Some(header)
-}
-
-fn ad_frame(spacecraft: u16, vc: u8, length: u16, ns: u8) -> [u8; 5]
-    requires spacecraft { spacecraft ≤ 1023 }
-    requires vc { vc ≤ 63 }
-    requires length { length ≤ 1023 }
-{
-    TcHeader::of_ad(spacecraft, vc, length, ns).write()
-}
-
+// The header of known octets has its fields, is made of them, and is written as read. A field
+// beyond its bits has none. A header of type AD has the fields given, and the greatest ones.
 #[test]
 fn tc_headers(rt: HostRuntime) {
-    for (octets, fields) in &KNOWN {
-        holds(&rt, octets, is_known(octets, fields));
+    for (octets, wanted) in &KNOWN {
+        let header = TcHeader::read(octets);
+        let kind = (
+            header.version(),
+            header.bypass(),
+            header.command(),
+            header.spare(),
+        );
+        let place = (header.spacecraft(), header.vc());
+        let fields = (kind, place, (header.length(), header.ns()));
+        let is_made = header.write() == *octets && new(wanted) == Some(header);
+        holds(&rt, octets, fields == *wanted && is_made);
     }
     for (field, fields) in &BEYOND {
         holds(&rt, field, new(fields).is_none());
     }
-}
-
-#[test]
-fn headers_of_frames_of_type_ad(rt: HostRuntime) {
-    let octets = ad_frame(1, 5, 15, 57);
+    let octets = TcHeader::of_ad(1, 5, 15, 57).write();
     holds(&rt, &octets, octets == [0x00, 0x01, 0x14, 0x0F, 0x39]);
-    let octets = ad_frame(1023, 63, 1023, 255);
-    holds(&rt, &octets, octets == [0x03, 0xFF, 0xFF, 0xFF, 0xFF]);
+    let most = TcHeader::of_ad(1023, 63, 1023, 255).write();
+    holds(&rt, &most, most == [0x03, 0xFF, 0xFF, 0xFF, 0xFF]);
 }

@@ -1,6 +1,4 @@
 //! TM headers.
-ghost use Rattle.std.specs.Prelude.{◌≤◌};
-
 use crate::support::rows::holds;
 use sl_fields::TmHeader;
 
@@ -55,25 +53,6 @@ const BEYOND: [(&str, Fields); 5] = [
     ),
 ];
 
-fn fields(header: &TmHeader) -> Fields {
-    (
-        (
-            header.version(),
-            header.spacecraft(),
-            header.vc(),
-            header.control(),
-        ),
-        (header.mc(), header.vcc()),
-        (
-            header.secondary(),
-            header.sync(),
-            header.order(),
-            header.segment(),
-            header.first(),
-        ),
-    )
-}
-
 fn new(fields: &Fields) -> Option<TmHeader> {
     let ((version, spacecraft, vc, control), (mc, vcc), (secondary, sync, order, segment, first)) =
         *fields;
@@ -82,42 +61,30 @@ fn new(fields: &Fields) -> Option<TmHeader> {
     )
 }
 
-// Whether a header is made of these fields, and is written as these octets.
-fn is_made(header: &TmHeader, octets: &[u8; 6], fields: &Fields) -> bool {
-    match new(fields) {
-        Some(made) => made == *header && made.write() == *octets,
-        None => false,
-    }
-}
-
-// Whether the header of these octets has these fields, is made of them, and is written as read.
-fn is_known(octets: &[u8; 6], wanted: &Fields) -> bool {
-    let header = TmHeader::read(octets);
-    fields(&header) == *wanted && header.write() == *octets && is_made(&header, octets, wanted)
-}
-
-fn packets_frame(spacecraft: u16, vc: u8, mc: u8, vcc: u8, first: u16) -> [u8; 6]
-    requires spacecraft { spacecraft ≤ 1023 }
-    requires vc { vc ≤ 7 }
-    requires first { first ≤ 2047 }
-{
-    TmHeader::of_packets(spacecraft, vc, mc, vcc, first).write()
-}
-
+// The header of known octets has its fields, is made of them, and is written as read. A field
+// beyond its bits has none. A header of a frame of packets has the fields given, and the greatest
+// ones.
 #[test]
 fn tm_headers(rt: HostRuntime) {
-    for (octets, fields) in &KNOWN {
-        holds(&rt, octets, is_known(octets, fields));
+    for (octets, wanted) in &KNOWN {
+        let header = TmHeader::read(octets);
+        let place = (
+            header.version(),
+            header.spacecraft(),
+            header.vc(),
+            header.control(),
+        );
+        let flags = (header.secondary(), header.sync(), header.order());
+        let status = (flags.0, flags.1, flags.2, header.segment(), header.first());
+        let fields = (place, (header.mc(), header.vcc()), status);
+        let is_made = header.write() == *octets && new(wanted) == Some(header);
+        holds(&rt, octets, fields == *wanted && is_made);
     }
     for (field, fields) in &BEYOND {
         holds(&rt, field, new(fields).is_none());
     }
-}
-
-#[test]
-fn headers_of_frames_of_packets(rt: HostRuntime) {
-    let octets = packets_frame(1, 3, 5, 6, 7);
+    let octets = TmHeader::of_packets(1, 3, 5, 6, 7).write();
     holds(&rt, &octets, octets == [0x00, 0x16, 0x05, 0x06, 0x18, 0x07]);
-    let octets = packets_frame(1023, 7, 255, 254, 2047);
-    holds(&rt, &octets, octets == [0x3F, 0xFE, 0xFF, 0xFE, 0x1F, 0xFF]);
+    let most = TmHeader::of_packets(1023, 7, 255, 254, 2047).write();
+    holds(&rt, &most, most == [0x3F, 0xFE, 0xFF, 0xFE, 0x1F, 0xFF]);
 }

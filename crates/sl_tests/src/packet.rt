@@ -1,8 +1,6 @@
 //! Packets of known octets: what is expected follows from the standard's bits.
 mod delivered;
 
-ghost use Rattle.std.specs.Prelude.{◌≤◌};
-
 use crate::support::packets::longest;
 use crate::support::recordings::{LEAST, TELEMETRY};
 use crate::support::rows::{Stop, holds, is_text, passes};
@@ -10,7 +8,6 @@ use sl_packet::{
     FlowFault, Need, Packets, SinkFault, add_part, first_packet, give_back, is_idle, need,
     push_idle,
 };
-use std::alloc::{AllocError, Global};
 
 // An idle packet with ten octets of data.
 const IDLE: [u8; 16] = [
@@ -99,42 +96,19 @@ static FLOW_FAULTS: [(FlowFault, &str); 3] = [
     (FlowFault::Failed, "failed"),
 ];
 
-fn first(octets: &[u8]) -> Option<&[u8]> {
-    first_packet(octets)
-}
-
-fn need_of(octets: &[u8]) -> Need {
-    need(octets)
-}
-
-fn has_idle_apid(octets: &[u8]) -> bool {
-    is_idle(octets)
-}
-
+// The packet at the front of known octets, what these need for one, and whether it is idle, which
+// the APID alone makes it.
 #[test]
 fn packets_at_the_front_of_known_octets(rt: HostRuntime) {
     for (octets, packet) in &FIRST {
-        holds(&rt, octets, first(octets) == *packet);
+        holds(&rt, octets, first_packet(octets) == *packet);
     }
-}
-
-#[test]
-fn octets_that_are_wanted_for_a_packet(rt: HostRuntime) {
     for (octets, wanted) in &NEEDS {
-        holds(&rt, octets, need_of(octets) == *wanted);
+        holds(&rt, octets, need(octets) == *wanted);
     }
-}
-
-#[test]
-fn the_apid_alone_makes_a_packet_idle(rt: HostRuntime) {
     for (octets, idle) in &IDLENESS {
-        holds(&rt, octets, has_idle_apid(octets) == *idle);
+        holds(&rt, octets, is_idle(octets) == *idle);
     }
-}
-
-// Whether this is the next packet, or there is none, and these octets are left.
-fn is_next(packets: &mut Packets, packet: Option<&[u8]>, rest: &[u8]) -> bool {
-    packets.next() == packet && packets.rest() == rest
 }
 
 // Whether these are the packets one after another.
@@ -144,11 +118,11 @@ fn are_next(octets: &[u8], wanted: &[(&[u8], &[u8])], rest: &[u8]) -> bool {
         return false;
     }
     for (packet, rest) in wanted {
-        if !is_next(&mut packets, Some(packet), rest) {
+        if packets.next() != Some(*packet) || packets.rest() != *rest {
             return false;
         }
     }
-    is_next(&mut packets, None, rest)
+    packets.next().is_none() && packets.rest() == rest
 }
 
 // Whether a loop gives the same.
@@ -171,62 +145,38 @@ fn packets_lie_end_to_end(rt: HostRuntime) {
     }
 }
 
-// Octets, and an idle packet after them.
-fn with_idle(alloc: Global, octets: &[u8], len: u32) -> Result<Vec<u8>, AllocError>
-    requires least { 7 ≤ len }
-    requires most { len ≤ 65542 }
-{
-    let mut all = Vec::from_slice(alloc, octets)?;
-    push_idle(&mut all, len)?;
-    Ok(all)
-}
-
-fn is_least_added(alloc: Global) -> Result<bool, Stop> {
-    let octets = with_idle(alloc, &[0xEE], 7)?;
-    Ok(octets.as_slice() == &[0xEE, 0x07, 0xFF, 0xC0, 0x00, 0x00, 0x00, 0x00][..])
-}
-
-fn is_longest_added(alloc: Global) -> Result<bool, Stop> {
-    let octets = with_idle(alloc, &[], 65542)?;
-    let is_begun = octets.starts_with(&[0x07, 0xFF, 0xC0, 0x00, 0xFF, 0xFF]);
-    Ok(octets.len() == 65542 && is_begun && first(&octets) == Some(octets.as_slice()))
-}
-
+// The least idle packet after an octet that is there, and the longest one.
 #[test]
-fn idle_packets_are_added_after_what_is_there(rt: HostRuntime) {
-    passes(&rt, &7, is_least_added(rt.alloc()));
-    passes(&rt, &65542, is_longest_added(rt.alloc()));
-}
-
-// Adds parts of 1,019 octets.
-fn add_parts(octets: &mut Vec<u8>, all: &[u8]) -> Result<(), Stop> {
-    for part in all.chunks(1019) {
-        add(octets, part)?;
-    }
+fn idle_packets_are_added_after_what_is_there(rt: HostRuntime) -> Result<(), Stop> {
+    let mut octets = Vec::from_slice(rt.alloc(), &[0xEE])?;
+    push_idle(&mut octets, 7)?;
+    let wanted = [0xEE, 0x07, 0xFF, 0xC0, 0x00, 0x00, 0x00, 0x00];
+    holds(&rt, &7, octets.as_slice() == wanted.as_slice());
+    let mut longest = Vec::new(rt.alloc());
+    push_idle(&mut longest, 65542)?;
+    let is_begun = longest.starts_with(&[0x07, 0xFF, 0xC0, 0x00, 0xFF, 0xFF]);
+    let is_first = first_packet(&longest) == Some(longest.as_slice());
+    holds(&rt, &65542, longest.len() == 65542 && is_begun && is_first);
     Ok(())
 }
 
-fn add(octets: &mut Vec<u8>, part: &[u8]) -> Result<(), Stop> {
-    if octets.len().saturating_add(part.len()) > 65542 {
-        return Err(Stop::Absent);
-    }
-    Ok(add_part(octets, part)?)
-}
-
-// Whether parts of a longest packet are joined in just the memory they need, which is given back.
-fn is_memory_enough(alloc: Global) -> Result<bool, Stop> {
-    let longest = longest(alloc)?;
-    let mut octets = Vec::new(alloc);
-    add_parts(&mut octets, &longest)?;
-    let is_joined = octets.as_slice() == longest.as_slice() && octets.capacity() == 65542;
-    give_back(&mut octets);
-    Ok(is_joined && octets.is_empty() && octets.capacity() == 0)
-}
-
-// That a vector with room isn't moved to more memory, no clause says.
+// Parts of 1,019 octets of a longest packet are joined in just the memory they need, which is given
+// back. That a vector with room isn't moved to more memory, no clause says.
 #[test]
-fn memory_for_parts_ends_with_the_longest_packet(rt: HostRuntime) {
-    passes(&rt, &65542, is_memory_enough(rt.alloc()));
+fn memory_for_parts_ends_with_the_longest_packet(rt: HostRuntime) -> Result<(), Stop> {
+    let longest = longest(rt.alloc())?;
+    let mut octets = Vec::new(rt.alloc());
+    for part in longest.chunks(1019) {
+        if octets.len().saturating_add(part.len()) > 65542 {
+            return Err(Stop::Absent);
+        }
+        add_part(&mut octets, part)?;
+    }
+    holds(&rt, &65542, octets.as_slice() == longest.as_slice());
+    holds(&rt, &65542, octets.capacity() == 65542);
+    give_back(&mut octets);
+    holds(&rt, &0, octets.is_empty() && octets.capacity() == 0);
+    Ok(())
 }
 
 #[test]

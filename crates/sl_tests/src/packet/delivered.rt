@@ -2,12 +2,11 @@
 ghost use Rattle.std.specs.Prelude.{◌≡◌, ◌++◌};
 
 use super::{OCTETS, REST};
-use crate::support::packets::{at_or_above, fits_tm, hand, has, have_same, none};
+use crate::support::packets::{hand, has, none};
 use crate::support::recordings::{LEAST, TELEMETRY};
 use crate::support::rows::{Stop, holds, passes};
 use sl_packet::{Delivered, PacketSink, SinkFault, first_packet, is_idle};
 use std::alloc::Global;
-use std::process::Abort;
 
 // Channels, and the least one from there on that has packets, where 3 and 4095 have.
 static AT_OR_ABOVE: [(u16, Option<u16>); 4] = [
@@ -31,6 +30,7 @@ fn keep(delivered: &mut Delivered, channel: u16, octets: &[u8]) -> Result<(), Si
     }
 }
 
+// Telemetry on channel 3, and the least telecommand on the greatest channel.
 fn kept(alloc: Global) -> Result<Delivered, SinkFault> {
     let mut delivered = none(alloc);
     keep(&mut delivered, 3, &TELEMETRY)?;
@@ -40,31 +40,29 @@ fn kept(alloc: Global) -> Result<Delivered, SinkFault> {
 
 // Each channel has its packets, and is found. Without any packets there is none. A store that was
 // handed the same packets has the same, and an empty one hasn't.
-fn are_kept(rt: &impl Abort, alloc: Global) -> Result<bool, Stop> {
-    let delivered = kept(alloc)?;
-    let empty = none(alloc);
+#[test]
+fn delivered_packets_are_kept_by_channel(rt: HostRuntime) -> Result<(), Stop> {
+    let delivered = kept(rt.alloc())?;
+    let empty = none(rt.alloc());
     for (channel, packets) in &KEPT {
-        holds(rt, channel, has(&delivered, *channel, packets));
+        holds(&rt, channel, has(&delivered, *channel, packets));
     }
     for (channel, least) in &AT_OR_ABOVE {
-        holds(rt, channel, at_or_above(&delivered, *channel) == *least);
+        holds(&rt, channel, delivered.at_or_above(*channel) == *least);
     }
-    holds(rt, &"the same", have_same(&delivered, &kept(alloc)?));
-    holds(rt, &"other packets", !have_same(&delivered, &empty));
-    Ok(at_or_above(&empty, 0).is_none())
-}
-
-#[test]
-fn delivered_packets_are_kept_by_channel(rt: HostRuntime) {
-    passes(&rt, &"no packets", are_kept(&rt, rt.alloc()));
+    let again = kept(rt.alloc())?;
+    holds(&rt, &"the same", delivered.has_same_packets(&again));
+    holds(&rt, &"other packets", !delivered.has_same_packets(&empty));
+    holds(&rt, &"no packets", empty.at_or_above(0).is_none());
+    Ok(())
 }
 
 // Whether no packets are of telemetry alone, and one of this channel is or isn't.
 fn fit(alloc: Global, channel: u16, wanted: bool) -> Result<bool, Stop> {
     let mut delivered = none(alloc);
-    let before = fits_tm(&delivered);
+    let before = delivered.fits_tm();
     keep(&mut delivered, channel, &TELEMETRY)?;
-    Ok(before && fits_tm(&delivered) == wanted)
+    Ok(before && delivered.fits_tm() == wanted)
 }
 
 #[test]
@@ -74,17 +72,18 @@ fn only_channels_0_to_7_fit_telemetry(rt: HostRuntime) {
     }
 }
 
-// Whether two packets are handed over, the idle one is not, and the other octets are left.
-fn is_handed_over(alloc: Global) -> Result<bool, Stop> {
-    let mut delivered = none(alloc);
+// Two packets are handed over, the idle one is not, and the other octets are left.
+#[test]
+fn idle_packets_are_not_handed_over(rt: HostRuntime) -> Result<(), Stop> {
+    let mut delivered = none(rt.alloc());
     let handed = hand(&mut delivered, 5, &OCTETS)?;
     let is_counted = handed.packets == 2 && handed.idle == 1 && handed.remainder == REST.as_slice();
-    Ok(is_counted && has(&delivered, 5, &[&TELEMETRY, &LEAST]))
-}
-
-#[test]
-fn idle_packets_are_not_handed_over(rt: HostRuntime) {
-    passes(&rt, &OCTETS, is_handed_over(rt.alloc()));
+    holds(
+        &rt,
+        &OCTETS,
+        is_counted && has(&delivered, 5, &[&TELEMETRY, &LEAST]),
+    );
+    Ok(())
 }
 
 // A sink that takes one packet and refuses all others.
@@ -112,14 +111,7 @@ impl PacketSink for OnlyOne {
     }
 }
 
-// Whether a refused packet stops what is handed over, and the one before it is kept.
-fn stops(sink: &mut OnlyOne) -> bool {
-    hand(sink, 9, &OCTETS).err() == Some(SinkFault::Refused)
-        && sink.channel == 9
-        && sink.refused == 1
-        && sink.octets.as_slice() == &TELEMETRY[..]
-}
-
+// A refused packet stops what is handed over, and the one before it is kept.
 #[test]
 fn a_refused_packet_stops_what_is_handed_over(rt: HostRuntime) {
     let mut sink = OnlyOne {
@@ -127,5 +119,8 @@ fn a_refused_packet_stops_what_is_handed_over(rt: HostRuntime) {
         octets: Vec::new(rt.alloc()),
         refused: 0,
     };
-    holds(&rt, &OCTETS, stops(&mut sink));
+    let fault = hand(&mut sink, 9, &OCTETS).err();
+    let is_kept = sink.channel == 9 && sink.octets.as_slice() == &TELEMETRY[..];
+    let is_stopped = fault == Some(SinkFault::Refused) && sink.refused == 1;
+    holds(&rt, &OCTETS, is_kept && is_stopped);
 }

@@ -17,18 +17,12 @@ pub fn none(alloc: Global) -> Delivered {
 pub fn delivered_of(alloc: Global, packets: &[(u16, &[u8])]) -> Result<Delivered, Stop> {
     let mut delivered = none(alloc);
     for (channel, packet) in packets {
-        add(&mut delivered, *channel, packet)?;
+        if *channel > 4095 {
+            return Err(Stop::Absent);
+        }
+        hand(&mut delivered, *channel, packet)?;
     }
     Ok(delivered)
-}
-
-// Hands over one packet.
-fn add(delivered: &mut Delivered, channel: u16, packet: &[u8]) -> Result<(), Stop> {
-    if channel > 4095 {
-        return Err(Stop::Absent);
-    }
-    hand(delivered, channel, packet)?;
-    Ok(())
 }
 
 /// Hands over the packets at the front of the octets.
@@ -44,10 +38,7 @@ pub fn hand<'a, S: PacketSink>(
 
 /// Whether these are the packets of a channel.
 pub fn has(delivered: &Delivered, channel: u16, packets: &[&[u8]]) -> bool {
-    are(delivered.list(channel), packets)
-}
-
-fn are(list: &[Vec<u8>], packets: &[&[u8]]) -> bool {
+    let list = delivered.list(channel);
     for (one, other) in list.iter().zip(packets) {
         if one.as_slice() != *other {
             return false;
@@ -58,29 +49,14 @@ fn are(list: &[Vec<u8>], packets: &[&[u8]]) -> bool {
 
 /// Whether these are all packets: those of each channel, and no other channel has any.
 pub fn are_all(delivered: &Delivered, packets: &[Packets]) -> bool {
-    let mut next = at_or_above(delivered, 0);
+    let mut next = delivered.at_or_above(0);
     for (channel, packets) in packets {
         if next != Some(*channel) || !has(delivered, *channel, packets) {
             return false;
         }
-        next = at_or_above(delivered, channel.saturating_add(1));
+        next = delivered.at_or_above(channel.saturating_add(1));
     }
     next.is_none()
-}
-
-/// The least channel from this one on that has packets.
-pub fn at_or_above(delivered: &Delivered, channel: u16) -> Option<u16> {
-    delivered.at_or_above(channel)
-}
-
-/// Whether both have the same packets on each channel.
-pub fn have_same(delivered: &Delivered, other: &Delivered) -> bool {
-    delivered.has_same_packets(other)
-}
-
-/// Whether each channel that has packets is a virtual channel of telemetry.
-pub fn fits_tm(delivered: &Delivered) -> bool {
-    delivered.fits_tm()
 }
 
 /// A packet with the greatest packet data length, and octets after it up to this number.

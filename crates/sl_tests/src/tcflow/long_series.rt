@@ -1,5 +1,5 @@
 //! Series of segments up to the greatest service data unit and past it.
-use crate::support::packets::{at_or_above, has, longest_and_more, none};
+use crate::support::packets::{has, longest_and_more, none};
 use crate::support::rows::{Stop, passes};
 use crate::support::tc::{held, received, receiver, shape};
 use sl_cop::Verdict;
@@ -131,7 +131,7 @@ fn is_later(
 fn delivers(delivered: &Delivered, octets: &[u8], is_so: bool) -> bool {
     match octets.get(..65542) {
         Some(longest) if is_so => has(delivered, 0, &[longest]),
-        _ => !is_so && at_or_above(delivered, 0).is_none(),
+        _ => !is_so && delivered.at_or_above(0).is_none(),
     }
 }
 

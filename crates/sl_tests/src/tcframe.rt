@@ -132,18 +132,6 @@ static WITH_FECF: [(&[u8], Option<TcSkip>); 7] = [
     ),
 ];
 
-// A frame of type AD and of 260 octets, which the length field states by both of its octets.
-fn frame_of_260_octets() -> [u8; 260] {
-    let mut frame = [0; 260];
-    frame[..6].copy_from_slice(&[0x00, 0x01, 0x01, 0x03, 0x00, 0xC0]);
-    frame
-}
-
-// Whether there is no format of this greatest length.
-fn is_refused(max: u16, fecf: bool) -> bool {
-    TcShape::new(max, fecf).err() == Some(ShapeFault::TcLength)
-}
-
 // Whether a format has these lengths, and this room with segment headers and without.
 fn is_format(
     max: u16,
@@ -159,7 +147,10 @@ fn is_format(
 #[test]
 fn formats_and_their_rooms(rt: HostRuntime) {
     for max in &NO_LENGTHS {
-        holds(&rt, max, is_refused(*max, false) && is_refused(*max, true));
+        for fecf in &[false, true] {
+            let fault = TcShape::new(*max, *fecf).err();
+            holds(&rt, &(max, fecf), fault == Some(ShapeFault::TcLength));
+        }
     }
     for (max, fecf, least, rooms) in &FORMATS {
         passes(&rt, &(max, fecf), is_format(*max, *fecf, *least, *rooms));
@@ -177,8 +168,16 @@ fn octets_that_are_one_frame(rt: HostRuntime) {
         passes(&rt, octets, is_cut(false, octets, *one));
         passes(&rt, octets, is_cut(true, octets, *one_with_fecf));
     }
-    passes(&rt, &260, is_cut(false, &frame_of_260_octets(), true));
-    passes(&rt, &260, is_cut(true, &frame_of_260_octets(), true));
+    // The length field states 260 octets by both of its octets.
+    let mut octets = [0; 260];
+    octets[..6].copy_from_slice(&[0x00, 0x01, 0x01, 0x03, 0x00, 0xC0]);
+    passes(&rt, &260, is_cut(false, &octets, true));
+    passes(&rt, &260, is_cut(true, &octets, true));
+    passes(
+        &rt,
+        &260,
+        is_skipped(17, false, &octets, Some(TcSkip::Long)),
+    );
 }
 
 // Whether a frame of at most this length is skipped for this reason, or is not skipped.
@@ -194,13 +193,8 @@ fn the_first_reason_to_skip_a_frame(rt: HostRuntime) {
     for (octets, reason) in &WITH_FECF {
         passes(&rt, octets, is_skipped(16, true, octets, *reason));
     }
-}
-
-#[test]
-fn nothing_but_the_managed_length_makes_a_frame_too_long(rt: HostRuntime) {
+    // Nothing but the managed length makes a frame too long.
     passes(&rt, &17, is_skipped(17, false, &LONG, None));
-    let outcome = is_skipped(17, false, &frame_of_260_octets(), Some(TcSkip::Long));
-    passes(&rt, &260, outcome);
 }
 
 // Whether a frame carries the same as this, with the same octets of the unit.

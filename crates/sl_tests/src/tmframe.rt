@@ -187,11 +187,6 @@ fn with_header(header: &[u8; 6]) -> [u8; 32] {
     frame
 }
 
-// Whether there is no format of this length.
-fn is_refused(len: u16, fecf: bool) -> bool {
-    TmShape::new(len, fecf).err() == Some(ShapeFault::TmLength)
-}
-
 // Whether a format has this length, error control, and room.
 fn is_format(len: u16, fecf: bool, room: u16) -> Result<bool, Stop> {
     let shape = shape(len, fecf)?;
@@ -201,28 +196,14 @@ fn is_format(len: u16, fecf: bool, room: u16) -> Result<bool, Stop> {
 #[test]
 fn formats_and_their_rooms(rt: HostRuntime) {
     for len in &NO_LENGTHS {
-        holds(&rt, len, is_refused(*len, false) && is_refused(*len, true));
+        for fecf in &[false, true] {
+            let fault = TmShape::new(*len, *fecf).err();
+            holds(&rt, &(len, fecf), fault == Some(ShapeFault::TmLength));
+        }
     }
     for (len, fecf, room) in &FORMATS {
         passes(&rt, &(len, fecf), is_format(*len, *fecf, *room));
     }
-}
-
-fn view(frame: &TmFrame) -> View {
-    (
-        frame.vc(),
-        (frame.mc_count(), frame.vc_count()),
-        frame.control(),
-    )
-}
-
-// Whether a frame has octets of packets, these, and the first packet starts there.
-fn has_packets(frame: &TmFrame, start: Option<u16>, field: &[u8]) -> bool {
-    let packets = TmField::Packets {
-        first: start,
-        octets: field,
-    };
-    frame.field() == packets
 }
 
 // Whether this is read of a frame of a format with error control or without.
@@ -230,11 +211,16 @@ fn is_read(
     (len, fecf): (u16, bool),
     octets: &[u8],
     seen: &View,
-    (start, field): (Option<u16>, &[u8]),
+    (first, octets_of_packets): (Option<u16>, &[u8]),
 ) -> Result<bool, Stop> {
     let shape = shape(len, fecf)?;
     let frame = frame(&shape, octets)?;
-    Ok(view(&frame) == *seen && has_packets(&frame, start, field))
+    let counts = (frame.mc_count(), frame.vc_count());
+    let packets = TmField::Packets {
+        first,
+        octets: octets_of_packets,
+    };
+    Ok((frame.vc(), counts, frame.control()) == *seen && frame.field() == packets)
 }
 
 #[test]
@@ -244,12 +230,8 @@ fn frames_of_packets_are_read(rt: HostRuntime) {
         let outcome = is_read((32, false), &octets, seen, (*start, &TM_FIELD));
         passes(&rt, header, outcome);
     }
-}
-
-// With an error control field; with an operational control field before it; and the same octets of
-// a format without error control.
-#[test]
-fn control_fields_are_no_part_of_the_data_field(rt: HostRuntime) {
+    // No control field is part of the data field: with an error control field; with an operational
+    // control field before it; and the same octets of a format without error control.
     for (format, octets, seen, packets) in &WITH_CONTROL_FIELDS {
         let outcome = is_read(*format, octets, seen, *packets);
         passes(&rt, &(format, octets), outcome);

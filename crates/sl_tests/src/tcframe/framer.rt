@@ -91,20 +91,14 @@ fn the_least_lengths_of_frames(rt: HostRuntime) {
 fn add_next(
     framer: &mut TcFramer,
     piece: &mut &[u8],
+    from_chunk: bool,
     lent: &mut Vec<u8>,
 ) -> Result<(), AllocError> {
-    if let Some(frame) = framer.next(piece) {
-        lent.extend_from_slice(frame)?;
-    }
-    Ok(())
-}
-
-fn add_next_from(
-    framer: &mut TcFramer,
-    piece: &mut &[u8],
-    lent: &mut Vec<u8>,
-) -> Result<(), AllocError> {
-    if let Some(frame) = framer.next_from(piece) {
+    if from_chunk {
+        if let Some(frame) = framer.next_from(piece) {
+            lent.extend_from_slice(frame)?;
+        }
+    } else if let Some(frame) = framer.next(piece) {
         lent.extend_from_slice(frame)?;
     }
     Ok(())
@@ -119,37 +113,22 @@ fn lend(
 ) -> Result<usize, AllocError> {
     let mut piece = chunk;
     for _ in 0..3 {
-        if from_chunk {
-            add_next_from(framer, &mut piece, lent)?;
-        } else {
-            add_next(framer, &mut piece, lent)?;
-        }
+        add_next(framer, &mut piece, from_chunk, lent)?;
     }
     Ok(piece.len())
-}
-
-// Adds the frames of all chunks of this size: how many octets of them are left.
-fn lend_all(
-    framer: &mut TcFramer,
-    size: usize,
-    from_chunk: bool,
-    lent: &mut Vec<u8>,
-) -> Result<usize, Stop> {
-    if size == 0 {
-        return Err(Stop::Absent);
-    }
-    let mut left = 0usize;
-    for chunk in RECORDING.chunks(size) {
-        left = left.saturating_add(lend(framer, chunk, from_chunk, lent)?);
-    }
-    Ok(left)
 }
 
 // Whether the two frames are lent of chunks of this size, and no frame begins with the next octets.
 fn are_lent(alloc: Global, size: usize, from_chunk: bool) -> Result<bool, Stop> {
     let mut framer = framer(false)?;
     let mut lent = Vec::new(alloc);
-    let left = lend_all(&mut framer, size, from_chunk, &mut lent)?;
+    let mut left = 0usize;
+    if size == 0 {
+        return Err(Stop::Absent);
+    }
+    for chunk in RECORDING.chunks(size) {
+        left = left.saturating_add(lend(&mut framer, chunk, from_chunk, &mut lent)?);
+    }
     let is_lent = lent.as_slice() == &RECORDING[..23];
     Ok(is_lent && is_held(&framer, &RECORDING[23..27], true) && left == 3)
 }
@@ -167,16 +146,12 @@ fn is_lent(fecf: bool, chunk: &[u8], wanted: &[u8], left: &[u8]) -> Result<bool,
     Ok(lends(&mut framer, chunk, Some(wanted), left))
 }
 
-// A frame longer than the managed maximum is lent, to be skipped.
+// A frame longer than the managed maximum is lent, to be skipped; and a frame with error control.
 #[test]
-fn the_longest_frame(rt: HostRuntime) {
+fn the_longest_frame_and_one_with_error_control(rt: HostRuntime) {
     let mut octets = [0; 1024];
     octets[..6].copy_from_slice(&[0x00, 0x01, 0x03, 0xFF, 0x00, 0xC0]);
     passes(&rt, &1024, is_lent(false, &octets, &octets, &[]));
-}
-
-#[test]
-fn a_frame_with_error_control(rt: HostRuntime) {
     let outcome = is_lent(true, &PROTECTED_AND_MORE, &PROTECTED, &[0xEE]);
     passes(&rt, &PROTECTED, outcome);
 }

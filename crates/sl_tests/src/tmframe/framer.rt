@@ -45,22 +45,21 @@ fn is_in_two_chunks() -> Result<bool, Stop> {
     Ok(is_empty && is_begun && is_lent && lends(&mut framer, rest, None, &[], rest))
 }
 
-#[test]
-fn a_frame_in_two_chunks(rt: HostRuntime) {
-    passes(&rt, &"two chunks", is_in_two_chunks());
-}
-
 // Adds the next frame that a chunk completes, lent from the framer or from the chunk.
-fn add_next(framer: &mut TmFramer, piece: &mut &[u8], lent: &mut Vec<u8>) -> Result<(), Stop> {
-    match framer.next(piece) {
-        Some(frame) if frame.len() == 32 => Ok(lent.extend_from_slice(frame)?),
-        Some(_) => Err(Stop::Absent),
-        None => Ok(()),
-    }
-}
-
-fn add_next_from(framer: &mut TmFramer, piece: &mut &[u8], lent: &mut Vec<u8>) -> Result<(), Stop> {
-    if let Some(frame) = framer.next_from(piece) {
+fn add_next(
+    framer: &mut TmFramer,
+    piece: &mut &[u8],
+    from_chunk: bool,
+    lent: &mut Vec<u8>,
+) -> Result<(), Stop> {
+    if from_chunk {
+        if let Some(frame) = framer.next_from(piece) {
+            lent.extend_from_slice(frame)?;
+        }
+    } else if let Some(frame) = framer.next(piece) {
+        if frame.len() != 32 {
+            return Err(Stop::Absent);
+        }
         lent.extend_from_slice(frame)?;
     }
     Ok(())
@@ -75,11 +74,7 @@ fn lend(
 ) -> Result<(), Stop> {
     let mut piece = chunk;
     for _ in 0..3 {
-        if from_chunk {
-            add_next_from(framer, &mut piece, lent)?;
-        } else {
-            add_next(framer, &mut piece, lent)?;
-        }
+        add_next(framer, &mut piece, from_chunk, lent)?;
     }
     if piece.is_empty() {
         Ok(())
@@ -102,11 +97,12 @@ fn are_lent(alloc: Global, size: usize, from_chunk: bool) -> Result<bool, Stop> 
 }
 
 #[test]
-fn two_frames_in_chunks_of_any_size(rt: HostRuntime) {
+fn frames_in_chunks_of_any_size(rt: HostRuntime) {
     for size in &SIZES {
         passes(&rt, size, are_lent(rt.alloc(), *size, false));
         passes(&rt, size, are_lent(rt.alloc(), *size, true));
     }
+    passes(&rt, &"two chunks", is_in_two_chunks());
 }
 
 fn is_longest_lent() -> Result<bool, Stop> {

@@ -28,116 +28,58 @@ const ENGINES: [Engine; 8] = [
     (Kind::Tc, Verb::Normalise, 16, &TC),
 ];
 
-// An engine with its recording and the link of this.
-#[derive(Drop)]
-struct Run {
-    verb: Verb,
-    link: Link,
-    recording: Vec<u8>,
+// A verb, its link and its recording.
+type Run = (Verb, Link, Vec<u8>);
+
+// With a limit of as many octets as the recording has, or of this number fewer.
+fn run(alloc: Global, engine: &Engine, fewer: usize) -> Result<Run, Stop> {
+    let (kind, verb, length, parts) = engine;
+    let recording = octets(alloc, parts)?;
+    let limit = recording.len().saturating_sub(fewer) as u64;
+    let link = Link::new(*kind, *length, false, 0, limit)?;
+    Ok((*verb, link, recording))
 }
 
-impl Run {
-    // With a limit of as many octets as the recording has, or of this number fewer.
-    fn new(alloc: Global, engine: &Engine, fewer: usize) -> Result<Run, Stop> {
-        let (kind, verb, length, parts) = engine;
-        let recording = octets(alloc, parts)?;
-        let limit = recording.len().saturating_sub(fewer) as u64;
-        Ok(Run {
-            verb: *verb,
-            link: Link::new(*kind, *length, false, 0, limit)?,
-            recording,
-        })
-    }
-
-    // What is written where nothing fails.
-    fn whole(&self, alloc: Global) -> Result<Vec<u8>, LinkFault> {
-        let answer = self.link.answer(alloc, self.verb, &self.recording, ALL)?;
-        Ok(answer.output)
-    }
-
-    // Whether the fault is the read after this number of reads, and what was written is the
-    // beginning of the text, or nothing of a normal form.
-    fn fails_at_read(&self, alloc: Global, reads: u64, whole: &[u8]) -> bool {
-        let reader = FailsAfter::new(InPieces(self.recording.as_slice(), 1), reads);
-        let ending = self.link.end(alloc, self.verb, reader, Vec::new(alloc));
-        ending.is_fault(LinkFault::Read, (1, 0))
-            && whole.starts_with(&ending.writer)
-            && (self.verb != Verb::Normalise || ending.writer.is_empty())
-    }
-
-    // Whether the fault is the write after this number of writes, which took the text's beginning.
-    fn fails_at_write(&self, alloc: Global, writes: usize, whole: &[u8]) -> bool {
-        let writer = FailsAfter::new(InPieces(Vec::new(alloc), 1), writes as u64);
-        let ending = self
-            .link
-            .end(alloc, self.verb, self.recording.as_slice(), writer);
-        ending.is_fault(LinkFault::Write, (0, 1))
-            && Some(ending.writer.into_inner().0.as_slice()) == whole.get(..writes)
-    }
-
-    // Whether a writer that takes nothing after this number of octets has failed.
-    fn fails_when_full(&self, alloc: Global, room: usize, whole: &[u8]) -> bool {
-        let writer = FullAfter::new(alloc, room);
-        let ending = self
-            .link
-            .end(alloc, self.verb, self.recording.as_slice(), writer);
-        ending.is_fault(LinkFault::Write, (0, 1))
-            && Some(ending.writer.taken.as_slice()) == whole.get(..room)
-    }
-
-    // Whether a writer that can't be flushed has no fault: an engine doesn't flush.
-    fn never_flushes(&self, alloc: Global) -> bool {
-        let ending = self
-            .link
-            .end(alloc, self.verb, self.recording.as_slice(), Unflushed);
-        ending.outcome.is_ok() && ending.faults == (0, 0)
-    }
-
-    // Whether an interrupted read is a fault: it isn't tried again, though it would go well.
-    fn fails_when_interrupted(&self, alloc: Global) -> bool {
-        let reader = Interrupted::new();
-        let ending = self.link.end(alloc, self.verb, reader, Vec::new(alloc));
-        ending.is_fault(LinkFault::Read, (1, 0)) && ending.writer.is_empty()
-    }
-
-    // Whether an input is too long, and nothing of a normal form is written.
-    fn is_too_long<R: Read + Drop>(&self, alloc: Global, reader: R) -> bool {
-        let ending = self.link.end(alloc, self.verb, reader, Vec::new(alloc));
-        ending.is_fault(LinkFault::TooLong, (0, 0))
-            && (self.verb != Verb::Normalise || ending.writer.is_empty())
-    }
-}
-
-// Each read may be the one that fails.
+// Each read may be the one that fails. What was written is the beginning of the text, or nothing of
+// a normal form.
 fn reads_fail(rt: &impl Abort, alloc: Global, engine: &Engine) -> Result<bool, Stop> {
-    let run = Run::new(alloc, engine, 0)?;
-    let whole = run.whole(alloc)?;
-    for reads in 0..=run.recording.len() as u64 {
-        holds(rt, &reads, run.fails_at_read(alloc, reads, &whole));
+    let (verb, link, recording) = run(alloc, engine, 0)?;
+    let whole = link.answer(alloc, verb, &recording, ALL)?.output;
+    for allowed in 0..=recording.len() as u64 {
+        let inner = InPieces(recording.as_slice(), 1);
+        let reader = FailsAfter { inner, allowed };
+        let ending = link.end(alloc, verb, reader, Vec::new(alloc));
+        let is_front = whole.starts_with(&ending.writer)
+            && (verb != Verb::Normalise || ending.writer.is_empty());
+        let is_fault = ending.is_fault(LinkFault::Read, (1, 0));
+        holds(rt, &("read", allowed), is_fault && is_front);
     }
     Ok(!whole.is_empty())
 }
 
 // So may each write; and the room may end before the first octet, or before the third.
 fn writes_fail(rt: &impl Abort, alloc: Global, engine: &Engine) -> Result<bool, Stop> {
-    let run = Run::new(alloc, engine, 0)?;
-    let whole = run.whole(alloc)?;
+    let (verb, link, recording) = run(alloc, engine, 0)?;
+    let whole = link.answer(alloc, verb, &recording, ALL)?.output;
     for writes in 0..whole.len() {
-        holds(rt, &writes, run.fails_at_write(alloc, writes, &whole));
+        let writer = FailsAfter {
+            inner: InPieces(Vec::new(alloc), 1),
+            allowed: writes as u64,
+        };
+        let ending = link.end(alloc, verb, recording.as_slice(), writer);
+        let is_front = Some(ending.writer.inner.0.as_slice()) == whole.get(..writes);
+        let is_fault = ending.is_fault(LinkFault::Write, (0, 1));
+        holds(rt, &("write", writes), is_fault && is_front);
     }
-    Ok(run.fails_when_full(alloc, 0, &whole) && run.fails_when_full(alloc, 2, &whole))
-}
-
-fn is_unflushed(alloc: Global, engine: &Engine) -> Result<bool, Stop> {
-    let run = Run::new(alloc, engine, 0)?;
-    Ok(run.never_flushes(alloc))
-}
-
-#[test]
-fn engines_never_flush(rt: HostRuntime) {
-    for engine in &ENGINES {
-        passes(&rt, engine, is_unflushed(rt.alloc(), engine));
+    for room in &[0, 2] {
+        let taken = Vec::new(alloc);
+        let writer = FullAfter { taken, room: *room };
+        let ending = link.end(alloc, verb, recording.as_slice(), writer);
+        let is_front = Some(ending.writer.taken.as_slice()) == whole.get(..*room);
+        let is_fault = ending.is_fault(LinkFault::Write, (0, 1));
+        holds(rt, &("room", room), is_fault && is_front);
     }
+    Ok(true)
 }
 
 #[test]
@@ -148,27 +90,43 @@ fn each_read_and_write_may_fail(rt: HostRuntime) {
     }
 }
 
-fn is_interrupted(alloc: Global, engine: &Engine) -> Result<bool, Stop> {
-    let run = Run::new(alloc, engine, 0)?;
-    Ok(run.fails_when_interrupted(alloc))
+// Whether a writer that can't be flushed has no fault, as an engine doesn't flush; and an
+// interrupted read is a fault: it isn't tried again, though it would go well.
+fn is_called_once(alloc: Global, engine: &Engine) -> Result<bool, Stop> {
+    let (verb, link, recording) = run(alloc, engine, 0)?;
+    let ending = link.end(alloc, verb, recording.as_slice(), Unflushed);
+    let is_unflushed = ending.outcome.is_ok() && ending.faults == (0, 0);
+    let reader = Interrupted {
+        was_interrupted: false,
+    };
+    let ending = link.end(alloc, verb, reader, Vec::new(alloc));
+    let is_interrupted = ending.is_fault(LinkFault::Read, (1, 0)) && ending.writer.is_empty();
+    Ok(is_unflushed && is_interrupted)
+}
+
+// Whether an input is too long, and nothing of a normal form is written.
+fn is_too_long<R: Read + Drop>(alloc: Global, verb: Verb, link: &Link, reader: R) -> bool {
+    let ending = link.end(alloc, verb, reader, Vec::new(alloc));
+    ending.is_fault(LinkFault::TooLong, (0, 0))
+        && (verb != Verb::Normalise || ending.writer.is_empty())
 }
 
 // Whether an input without end is too long, and a recording of one octet more than the limit,
 // however many octets come at a time.
 fn is_limited(alloc: Global, engine: &Engine) -> Result<bool, Stop> {
-    let run = Run::new(alloc, engine, 1)?;
-    let mut is_so = run.is_too_long(alloc, std::io::repeat(0));
+    let (verb, link, recording) = run(alloc, engine, 1)?;
+    let mut is_so = is_too_long(alloc, verb, &link, std::io::repeat(0));
     for most in &[1, 7, ALL] {
-        is_so &= run.is_too_long(alloc, InPieces(run.recording.as_slice(), *most));
+        is_so &= is_too_long(alloc, verb, &link, InPieces(recording.as_slice(), *most));
     }
     Ok(is_so)
 }
 
 // The recordings above have as many octets as the limit allows, and here they have one more.
 #[test]
-fn interruptions_and_limits_are_faults(rt: HostRuntime) {
+fn flushes_interruptions_and_limits(rt: HostRuntime) {
     for engine in &ENGINES {
-        passes(&rt, engine, is_interrupted(rt.alloc(), engine));
+        passes(&rt, engine, is_called_once(rt.alloc(), engine));
         passes(&rt, engine, is_limited(rt.alloc(), engine));
     }
 }

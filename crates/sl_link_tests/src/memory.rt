@@ -4,6 +4,7 @@ use super::support::engines::{Ending, Kind, Link, Verb};
 use super::support::recordings::TC_FRAME;
 use super::support::rows::{Stop, passes};
 use super::support::streams::Page;
+use arrayvec::ArrayVec;
 use sl_link::LinkFault;
 use std::alloc::Global;
 
@@ -66,7 +67,7 @@ const CASES: [Case; 8] = [
 // Whether an engine writes all; or memory was refused, and it wrote the beginning, and nothing of a
 // normal form. No other fault comes, and `show` takes no memory.
 fn is_so(verb: Verb, ending: &Ending<Page>, whole: &[u8]) -> bool {
-    let octets = ending.writer.octets();
+    let octets = ending.writer.octets.as_slice();
     if ending.outcome.is_ok() {
         return octets == whole;
     }
@@ -79,7 +80,14 @@ fn is_so(verb: Verb, ending: &Ending<Page>, whole: &[u8]) -> bool {
 fn may_be_refused(alloc: Global, case: &Case) -> Result<bool, Stop> {
     let (kind, length, recording, verb, whole) = case;
     let link = Link::new(*kind, *length, false, 0, 100)?;
-    let ending = link.end(alloc, *verb, *recording, Page::new());
+    let ending = link.end(
+        alloc,
+        *verb,
+        *recording,
+        Page {
+            octets: ArrayVec::new(),
+        },
+    );
     Ok(is_so(*verb, &ending, whole))
 }
 

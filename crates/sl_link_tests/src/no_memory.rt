@@ -4,6 +4,7 @@ use super::support::engines::{Kind, Link, Verb};
 use super::support::recordings::{TC_FRAME, TM_FRAME};
 use super::support::rows::{Stop, passes};
 use super::support::streams::Page;
+use arrayvec::ArrayVec;
 use std::alloc::Global;
 
 const TM_TOTALS: &[u8] = b"frames 1 skipped 0 packets 1 idle 1 anomalies 0\n";
@@ -38,9 +39,16 @@ const CASES: [Case; 6] = [
 fn writes(alloc: Global, case: &Case) -> Result<bool, Stop> {
     let (kind, verb, length, recording, wanted) = case;
     let link = Link::new(*kind, *length, false, 0, 100)?;
-    let ending = link.end(alloc, *verb, *recording, Page::new());
+    let ending = link.end(
+        alloc,
+        *verb,
+        *recording,
+        Page {
+            octets: ArrayVec::new(),
+        },
+    );
     ending.outcome?;
-    Ok(ending.writer.octets() == *wanted)
+    Ok(ending.writer.octets.as_slice() == *wanted)
 }
 
 #[test]

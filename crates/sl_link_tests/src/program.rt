@@ -3,7 +3,7 @@ use super::support::recordings::{
     FIRST, HUNDRED, TC_TEN_LISTED, TEN, TEN_FILLED, TM_FRAME, TM_TEN_LISTED, WHOLE, WITH_FECF,
     octets,
 };
-use super::support::rows::{Stop, passes};
+use super::support::rows::{Stop, holds, passes};
 use super::support::run::{Outcome, ended, ends, lists, normalises, refuses};
 use super::support::streams::{FullAfter, Interrupted, Unflushed, Unwritable};
 use std::alloc::Global;
@@ -176,32 +176,25 @@ fn has_status(alloc: Global, recording: &[u8], status: u8, said: &str) -> Result
 }
 
 // Exactly the limit, and one octet more.
-fn is_limited(alloc: Global) -> Result<bool, Stop> {
-    let mut recording = octets(alloc, &HUNDRED)?;
-    let is_all = has_status(alloc, &recording, 0, "")?;
+#[test]
+fn the_limit_is_kept(rt: HostRuntime) -> Result<(), Stop> {
+    let mut recording = octets(rt.alloc(), &HUNDRED)?;
+    holds(&rt, &100, has_status(rt.alloc(), &recording, 0, "")?);
     recording.push(0x18)?;
-    Ok(is_all && has_status(alloc, &recording, 3, "sllink: too long\n")?)
+    let said = "sllink: too long\n";
+    holds(&rt, &101, has_status(rt.alloc(), &recording, 3, said)?);
+    Ok(())
 }
 
 #[test]
-fn the_limit_is_kept(rt: HostRuntime) {
-    passes(&rt, &LIMITED, is_limited(rt.alloc()));
-}
-
-fn is_unread(alloc: Global, line: &str) -> Result<bool, Stop> {
-    Ok(Outcome::unread(alloc, line)?.says(3, "sllink: read\n"))
-}
-
-fn is_too_long(alloc: Global, line: &str) -> Result<bool, Stop> {
-    Ok(Outcome::of(alloc, line, RECORDING)?.says(3, "sllink: too long\n"))
-}
-
-#[test]
-fn faults_of_reading_are_named(rt: HostRuntime) {
+fn faults_of_reading_are_named(rt: HostRuntime) -> Result<(), Stop> {
     for line in &UNREAD {
-        passes(&rt, line, is_unread(rt.alloc(), line));
+        let outcome = Outcome::unread(rt.alloc(), line)?;
+        holds(&rt, line, outcome.says(3, "sllink: read\n"));
     }
-    passes(&rt, &UP_TO_ONE, is_too_long(rt.alloc(), UP_TO_ONE));
+    let outcome = Outcome::of(rt.alloc(), UP_TO_ONE, RECORDING)?;
+    holds(&rt, &UP_TO_ONE, outcome.says(3, "sllink: too long\n"));
+    Ok(())
 }
 
 // Whether a run says that this writer failed.
@@ -221,17 +214,17 @@ fn faults_of_writing_are_named(rt: HostRuntime) {
     for (line, recording) in &UNWRITTEN {
         passes(&rt, line, fails(rt.alloc(), line, recording, Unwritable));
         passes(&rt, line, fails(rt.alloc(), line, recording, Unflushed));
-        passes(
-            &rt,
-            line,
-            fails(rt.alloc(), line, recording, Interrupted::new()),
-        );
+        let interrupted = Interrupted {
+            was_interrupted: false,
+        };
+        passes(&rt, line, fails(rt.alloc(), line, recording, interrupted));
     }
 }
 
 // Whether a device that is full after two octets has these, and the program says `write`.
 fn has_beginning(alloc: Global) -> Result<bool, Stop> {
-    let streams = (&TM_FRAME[..], FullAfter::new(alloc, 2));
+    let taken = Vec::new(alloc);
+    let streams = (&TM_FRAME[..], FullAfter { taken, room: 2 });
     let (is_so, faults, writer) = ends(alloc, NORMALISE, streams, (3, "sllink: write\n"))?;
     Ok(is_so && faults == 1 && writer.taken.as_slice() == &[0x00, 0x10][..])
 }

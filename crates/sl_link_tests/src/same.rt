@@ -59,65 +59,61 @@ fn compare_in_memory_tc(alloc: Global, limit: u64, one: &[u8], other: &[u8]) -> 
 }
 
 // Pairs of TM recordings, and whether their packets are the same.
-fn tm_pairs() -> [(&'static [&'static str], &'static [&'static str], bool); 8] {
-    [
-        (&[], &[], true),
-        (&[], &[FIRST, TEN_FILLED], false),
-        (&[FIRST, TEN_FILLED], &[FIRST, TEN_FILLED], true),
-        // Other counts, other packets, and a damaged octet.
-        (&[FIRST, TEN_FILLED], &["0010aabb1800", TEN_FILLED], true),
-        (&[FIRST, TEN_FILLED], &[FIRST, ZEROS], false),
-        (&[FIRST, TEN_FILLED], &[FIRST, DAMAGED], false),
-        // A packet in two frames, with an idle frame within it, and with a frame lost.
-        (&THROUGH, &AROUND_IDLE, true),
-        (&THROUGH, &WITH_GAP, false),
-    ]
-}
+const TM_PAIRS: [(&[&str], &[&str], bool); 8] = [
+    (&[], &[], true),
+    (&[], &[FIRST, TEN_FILLED], false),
+    (&[FIRST, TEN_FILLED], &[FIRST, TEN_FILLED], true),
+    // Other counts, other packets, and a damaged octet.
+    (&[FIRST, TEN_FILLED], &["0010aabb1800", TEN_FILLED], true),
+    (&[FIRST, TEN_FILLED], &[FIRST, ZEROS], false),
+    (&[FIRST, TEN_FILLED], &[FIRST, DAMAGED], false),
+    // A packet in two frames, with an idle frame within it, and with a frame lost.
+    (&THROUGH, &AROUND_IDLE, true),
+    (&THROUGH, &WITH_GAP, false),
+];
 
 #[test]
 fn tm_recordings_are_compared(rt: HostRuntime) -> Result<(), Fail> {
     let alloc = rt.alloc();
-    for (one, other, same) in tm_pairs() {
+    for (one, other, same) in &TM_PAIRS {
         let one = octets(alloc, one)?;
         let other = octets(alloc, other)?;
         let (one, other) = (one.as_slice(), other.as_slice());
         let found = compare_tm(alloc, 1000, one, other)?;
-        assert_eq!(rt; found, (Ok(same), (0, 0)));
+        assert_eq!(rt; found, (Ok(*same), (0, 0)));
         let turned = compare_tm(alloc, 1000, InPieces(other, 1), one)?;
-        assert_eq!(rt; turned, (Ok(same), (0, 0)));
+        assert_eq!(rt; turned, (Ok(*same), (0, 0)));
         let in_memory = compare_in_memory_tm(alloc, 1000, one, other)?;
-        assert_eq!(rt; in_memory, Ok(same));
+        assert_eq!(rt; in_memory, Ok(*same));
     }
     Ok(())
 }
 
 // Pairs of TC recordings, and whether their packets are the same.
-fn tc_pairs() -> [(&'static [&'static str], &'static [&'static str], bool); 7] {
-    [
-        (&[], &[], true),
-        (&[WHOLE], &[WHOLE], true),
-        (&[WHOLE], &[WHOLE_BD], true),
-        (&[WHOLE], &LOCKED_OUT, true),
-        // A frame that comes twice is accepted once, and one that comes too early isn't.
-        (&[WHOLE, WHOLE, SECOND], &[SECOND, WHOLE, SECOND], true),
-        (&[WHOLE, SECOND], &[WHOLE], false),
-        (&[WHOLE], &DIVIDED, false),
-    ]
-}
+const TC_PAIRS: [(&[&str], &[&str], bool); 7] = [
+    (&[], &[], true),
+    (&[WHOLE], &[WHOLE], true),
+    (&[WHOLE], &[WHOLE_BD], true),
+    (&[WHOLE], &LOCKED_OUT, true),
+    // A frame that comes twice is accepted once, and one that comes too early isn't.
+    (&[WHOLE, WHOLE, SECOND], &[SECOND, WHOLE, SECOND], true),
+    (&[WHOLE, SECOND], &[WHOLE], false),
+    (&[WHOLE], &DIVIDED, false),
+];
 
 #[test]
 fn tc_recordings_are_compared(rt: HostRuntime) -> Result<(), Fail> {
     let alloc = rt.alloc();
-    for (one, other, same) in tc_pairs() {
+    for (one, other, same) in &TC_PAIRS {
         let one = octets(alloc, one)?;
         let other = octets(alloc, other)?;
         let (one, other) = (one.as_slice(), other.as_slice());
         let found = compare_tc(alloc, 1000, one, other)?;
-        assert_eq!(rt; found, (Ok(same), (0, 0)));
+        assert_eq!(rt; found, (Ok(*same), (0, 0)));
         let turned = compare_tc(alloc, 1000, InPieces(other, 1), one)?;
-        assert_eq!(rt; turned, (Ok(same), (0, 0)));
+        assert_eq!(rt; turned, (Ok(*same), (0, 0)));
         let in_memory = compare_in_memory_tc(alloc, 1000, one, other)?;
-        assert_eq!(rt; in_memory, Ok(same));
+        assert_eq!(rt; in_memory, Ok(*same));
     }
     Ok(())
 }
@@ -130,7 +126,15 @@ fn either_recording_may_fail(rt: HostRuntime) -> Result<(), Fail> {
     let whole = recording.as_slice();
     let first = compare_tm(alloc, 32, Unreadable, Unreadable)?;
     assert_eq!(rt; first, (Err(LinkFault::Read), (1, 0)));
-    let second = compare_tm(alloc, 32, whole, FailsAfter::new(whole, 1))?;
+    let second = compare_tm(
+        alloc,
+        32,
+        whole,
+        FailsAfter {
+            inner: whole,
+            allowed: 1,
+        },
+    )?;
     assert_eq!(rt; second, (Err(LinkFault::Read), (0, 1)));
     let long = compare_tm(alloc, 31, whole, Unreadable)?;
     assert_eq!(rt; long, (Err(LinkFault::TooLong), (0, 0)));

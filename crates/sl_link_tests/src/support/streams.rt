@@ -1,6 +1,5 @@
 //! Readers and writers: with faults, in pieces, and without memory.
 use arrayvec::ArrayVec;
-use std::alloc::Global;
 use std::io::{Error, ErrorKind, Read, Result, Write};
 
 /// Can't be read.
@@ -31,16 +30,7 @@ impl Write for Unwritable {
 #[derive(Drop)]
 pub struct FullAfter {
     pub taken: Vec<u8>,
-    room: usize,
-}
-
-impl FullAfter {
-    pub fn new(alloc: Global, room: usize) -> FullAfter {
-        FullAfter {
-            taken: Vec::new(alloc),
-            room,
-        }
-    }
+    pub room: usize,
 }
 
 impl Write for FullAfter {
@@ -77,15 +67,7 @@ impl Write for Unflushed {
 /// Is interrupted at its first read or write; then nothing is left to read, and all is taken.
 #[derive(Drop)]
 pub struct Interrupted {
-    was_interrupted: bool,
-}
-
-impl Interrupted {
-    pub fn new() -> Interrupted {
-        Interrupted {
-            was_interrupted: false,
-        }
-    }
+    pub was_interrupted: bool,
 }
 
 impl Read for Interrupted {
@@ -137,20 +119,11 @@ impl<W: Write> Write for InPieces<W> {
 /// Fails once this number of calls have gone well, and at each later one.
 #[derive(Drop)]
 pub struct FailsAfter<T> {
-    inner: T,
-    allowed: u64,
+    pub inner: T,
+    pub allowed: u64,
 }
 
 impl<T> FailsAfter<T> {
-    pub fn new(inner: T, allowed: u64) -> FailsAfter<T> {
-        FailsAfter { inner, allowed }
-    }
-
-    pub fn into_inner(self) -> T {
-        let FailsAfter { inner, .. } = self;
-        inner
-    }
-
     fn spend(&mut self) -> Result<()> {
         if self.allowed == 0 {
             return Err(Error::from(ErrorKind::ConnectionReset));
@@ -181,19 +154,7 @@ impl<W: Write> Write for FailsAfter<W> {
 /// Takes up to 512 octets, and no memory.
 #[derive(Drop)]
 pub struct Page {
-    octets: ArrayVec<u8, 512>,
-}
-
-impl Page {
-    pub fn new() -> Page {
-        Page {
-            octets: ArrayVec::new(),
-        }
-    }
-
-    pub fn octets(&self) -> &[u8] {
-        self.octets.as_slice()
-    }
+    pub octets: ArrayVec<u8, 512>,
 }
 
 impl Write for Page {

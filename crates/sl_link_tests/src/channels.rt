@@ -2,9 +2,8 @@
 use super::support::recordings::{
     BEGUN_FROM_255, CONTINUED_FROM_255, DIVIDED_FROM_255, ENDED_FROM_255, WHOLE,
 };
-use super::support::rows::{Stop, passes};
+use super::support::rows::{Stop, holds, passes};
 use super::support::run::{lists, normalises, refuses};
-use std::alloc::{AllocError, Global};
 
 const LINK: &str = "tc --scid 1 --tm-length 32 --tc-length 24";
 
@@ -201,47 +200,46 @@ const REFUSED: [(&str, &str); 10] = [
     ("--plain 64 --vr-of 5 --limit 0", "sllink: managed: limit\n"),
 ];
 
-// The command line of a verb with options.
-fn line(alloc: Global, verb: &str, link: &str, options: &str) -> Result<String, AllocError> {
-    format!(in alloc; "sllink {verb} {link} {options}")
-}
-
-fn is_listed(alloc: Global, listing: &Listing) -> Result<bool, Stop> {
-    let (verb, link, options, parts, status, wanted) = listing;
-    let line = line(alloc, verb, link, options)?;
-    lists(alloc, line.as_str(), parts, *status, wanted)
-}
-
 #[test]
-fn virtual_channels_are_listed_as_managed(rt: HostRuntime) {
+fn virtual_channels_are_listed_as_managed(rt: HostRuntime) -> Result<(), Stop> {
     for row in &LISTINGS {
-        passes(&rt, row, is_listed(rt.alloc(), row));
+        let (verb, link, options, parts, status, wanted) = row;
+        let line = format!(in rt.alloc(); "sllink {verb} {link} {options}")?;
+        passes(
+            &rt,
+            row,
+            lists(rt.alloc(), line.as_str(), parts, *status, wanted),
+        );
     }
-}
-
-fn is_normalised(alloc: Global, form: &Form) -> Result<bool, Stop> {
-    let (link, options, parts, wanted) = form;
-    let line = line(alloc, "normalise", link, options)?;
-    normalises(alloc, line.as_str(), parts, wanted)
+    Ok(())
 }
 
 #[test]
-fn normal_forms_are_as_managed(rt: HostRuntime) {
+fn normal_forms_are_as_managed(rt: HostRuntime) -> Result<(), Stop> {
     for row in &FORMS {
-        passes(&rt, row, is_normalised(rt.alloc(), row));
+        let (link, options, parts, wanted) = row;
+        let line = format!(in rt.alloc(); "sllink normalise {link} {options}")?;
+        passes(
+            &rt,
+            row,
+            normalises(rt.alloc(), line.as_str(), parts, wanted),
+        );
     }
-}
-
-fn is_refused(alloc: Global, kind: &str, options: &str, said: &str) -> Result<bool, Stop> {
-    let line = format!(in alloc; "sllink normalise {kind} --scid 1 {options}")?;
-    Ok(refuses(alloc, line.as_str(), said)?)
+    Ok(())
 }
 
 // Both kinds of recording refuse a text before anything is read.
 #[test]
-fn texts_of_virtual_channels_are_refused(rt: HostRuntime) {
+fn texts_of_virtual_channels_are_refused(rt: HostRuntime) -> Result<(), Stop> {
     for (options, said) in &REFUSED {
-        passes(&rt, options, is_refused(rt.alloc(), "tm", options, said));
-        passes(&rt, options, is_refused(rt.alloc(), "tc", options, said));
+        for kind in &["tm", "tc"] {
+            let line = format!(in rt.alloc(); "sllink normalise {kind} --scid 1 {options}")?;
+            holds(
+                &rt,
+                &(kind, options),
+                refuses(rt.alloc(), line.as_str(), said)?,
+            );
+        }
     }
+    Ok(())
 }

@@ -3,7 +3,6 @@ use super::support::recordings::{FIRST, TEN_FILLED, TM_TEN_LISTED, TM_TEN_SHOWN,
 use super::support::rows::{Stop, holds, passes};
 use super::support::run::{Outcome, lists, normalises};
 use std::alloc::{AllocError, Global};
-use std::process::Abort;
 
 // Options come in any order, before the kind or after it, their number joined to them or not. The
 // first word may be any.
@@ -197,18 +196,19 @@ fn command_lines_are_read(rt: HostRuntime) {
     }
 }
 
-// Whether a command line is refused, and nothing is written for it.
-fn is_wrong(alloc: Global, line: &str) -> Result<bool, Stop> {
-    let outcome = Outcome::of(alloc, line, &[])?;
-    let is_refused = outcome.status == 2 && outcome.output.is_empty();
-    Ok(is_refused && outcome.errors.starts_with(b"error: "))
-}
-
+// Nothing is written for a command line that is refused.
 #[test]
-fn wrong_command_lines_are_refused(rt: HostRuntime) {
+fn wrong_command_lines_are_refused(rt: HostRuntime) -> Result<(), Stop> {
     for line in &WRONG {
-        passes(&rt, line, is_wrong(rt.alloc(), line));
+        let outcome = Outcome::of(rt.alloc(), line, &[])?;
+        let is_refused = outcome.status == 2 && outcome.output.is_empty();
+        holds(
+            &rt,
+            line,
+            is_refused && outcome.errors.starts_with(b"error: "),
+        );
     }
+    Ok(())
 }
 
 // A command line that goes on with a thousand words.
@@ -220,47 +220,41 @@ fn long_line(alloc: Global, line: &str) -> Result<String, AllocError> {
     Ok(long)
 }
 
-fn has_status(alloc: Global, line: &str, status: u8) -> Result<bool, Stop> {
-    let line = long_line(alloc, line)?;
-    let outcome = Outcome::of(alloc, line.as_str(), &[])?;
-    Ok(outcome.status == status)
-}
-
 // As many words as memory has room for are no fault.
 #[test]
-fn many_words_are_read(rt: HostRuntime) {
+fn many_words_are_read(rt: HostRuntime) -> Result<(), Stop> {
     for (line, status) in &LONG {
-        passes(&rt, line, has_status(rt.alloc(), line, *status));
+        let long = long_line(rt.alloc(), line)?;
+        let outcome = Outcome::of(rt.alloc(), long.as_str(), &[])?;
+        holds(&rt, line, outcome.status == *status);
     }
+    Ok(())
 }
 
-// Whether the version is written, and nothing is read for it.
-fn is_version(alloc: Global, line: &str) -> Result<bool, Stop> {
-    let outcome = Outcome::unread(alloc, line)?;
-    Ok(outcome.says(0, "") && outcome.text() == "sllink 1.0.0\n")
-}
-
+// Nothing is read for the version.
 #[test]
-fn the_version_is_printed(rt: HostRuntime) {
+fn the_version_is_printed(rt: HostRuntime) -> Result<(), Stop> {
     for line in &VERSION_LINES {
-        passes(&rt, line, is_version(rt.alloc(), line));
+        let outcome = Outcome::unread(rt.alloc(), line)?;
+        holds(
+            &rt,
+            line,
+            outcome.says(0, "") && outcome.text() == "sllink 1.0.0\n",
+        );
     }
-}
-
-// Whether a command line is answered by help that says all these.
-fn is_said(rt: &impl Abort, alloc: Global, line: &str, parts: &[&str]) -> Result<bool, Stop> {
-    let outcome = Outcome::of(alloc, line, &[])?;
-    for part in parts {
-        holds(rt, part, outcome.text().contains(*part));
-    }
-    Ok(outcome.says(0, ""))
+    Ok(())
 }
 
 #[test]
-fn help_says_what_a_run_takes_and_gives(rt: HostRuntime) {
+fn help_says_what_a_run_takes_and_gives(rt: HostRuntime) -> Result<(), Stop> {
     for (line, parts) in &HELP {
-        passes(&rt, line, is_said(&rt, rt.alloc(), line, parts));
+        let outcome = Outcome::of(rt.alloc(), line, &[])?;
+        holds(&rt, line, outcome.says(0, ""));
+        for part in *parts {
+            holds(&rt, &(line, part), outcome.text().contains(*part));
+        }
     }
+    Ok(())
 }
 
 // What comes after a verb and its sentence, if only blanks are between these two.
@@ -298,24 +292,15 @@ fn names_options(said: &str) -> bool {
     said.contains("[possible values: tm, tc]")
 }
 
-fn has_verbs(alloc: Global, line: &str) -> Result<bool, Stop> {
-    Ok(names_verbs(Outcome::of(alloc, line, &[])?.text()))
-}
-
-fn has_options(alloc: Global, line: &str) -> Result<bool, Stop> {
-    Ok(names_options(Outcome::of(alloc, line, &[])?.text()))
-}
-
 #[test]
-fn help_names_each_verb_and_option(rt: HostRuntime) {
-    passes(
-        &rt,
-        &"sllink --help",
-        has_verbs(rt.alloc(), "sllink --help"),
-    );
+fn help_names_each_verb_and_option(rt: HostRuntime) -> Result<(), Stop> {
+    let help = Outcome::of(rt.alloc(), "sllink --help", &[])?;
+    holds(&rt, &"verbs", names_verbs(help.text()));
     for line in &WITH_OPTIONS {
-        passes(&rt, line, has_options(rt.alloc(), line));
+        let help = Outcome::of(rt.alloc(), line, &[])?;
+        holds(&rt, line, names_options(help.text()));
     }
+    Ok(())
 }
 
 // Each option at once: with the program, the verb and the kind these are twenty-one words.
@@ -378,44 +363,22 @@ const FORMS_WITH_ALL: [(&str, &[&str], usize, usize); 2] = [
     ("normalise tc", &UPLINK, 0, 2),
 ];
 
-fn lists_with_all(
-    alloc: Global,
-    verb: &str,
-    parts: &[&str],
-    status: u8,
-    listing: &str,
-) -> Result<bool, Stop> {
-    let line = format!(in alloc; "sllink {verb} {ALL_OPTIONS}")?;
-    lists(alloc, line.as_str(), parts, status, listing)
-}
-
-// Whether the form is the parts from the one number up to the other.
-fn normalises_with_all(
-    alloc: Global,
-    verb: &str,
-    parts: &[&str],
-    from: usize,
-    to: usize,
-) -> Result<bool, Stop> {
-    let form = parts.get(from..to).ok_or(Stop::Absent)?;
-    let line = format!(in alloc; "sllink {verb} {ALL_OPTIONS}")?;
-    normalises(alloc, line.as_str(), parts, form)
-}
-
+// A form is the parts from the one number up to the other.
 #[test]
-fn each_verb_and_kind_takes_all_options(rt: HostRuntime) {
+fn each_verb_and_kind_takes_all_options(rt: HostRuntime) -> Result<(), Stop> {
     for (verb, parts, status, listing) in &WITH_ALL {
-        passes(
-            &rt,
-            verb,
-            lists_with_all(rt.alloc(), verb, parts, *status, listing),
-        );
+        let line = format!(in rt.alloc(); "sllink {verb} {ALL_OPTIONS}")?;
+        let outcome = lists(rt.alloc(), line.as_str(), parts, *status, listing);
+        passes(&rt, verb, outcome);
     }
     for (verb, parts, from, to) in &FORMS_WITH_ALL {
+        let form = parts.get(*from..*to).ok_or(Stop::Absent)?;
+        let line = format!(in rt.alloc(); "sllink {verb} {ALL_OPTIONS}")?;
         passes(
             &rt,
             verb,
-            normalises_with_all(rt.alloc(), verb, parts, *from, *to),
+            normalises(rt.alloc(), line.as_str(), parts, form),
         );
     }
+    Ok(())
 }

@@ -4,7 +4,7 @@ use super::support::recordings::{
     DIVIDED, FIRST_OF_3, IN_WINDOW, LAST_OF_3, LOCKED_OUT, MIDDLE_OF_3, MIXED, SECOND, SKIPPED,
     TC_TEN_LISTED, THIRD, UNLOCK_WITH_FECF, WHOLE, WITH_IDLE, too_long,
 };
-use super::support::rows::{Stop, passes};
+use super::support::rows::{Stop, holds, passes};
 use super::support::run::{Outcome, lists, writes};
 use std::alloc::{AllocError, Global};
 use std::process::Abort;
@@ -184,25 +184,21 @@ fn are_open(rt: &impl Abort, alloc: Global, listing: &str) -> bool {
     lines.next() == Some(OF_ALL_SERIES) && lines.next().is_none()
 }
 
-fn all_are_open(rt: &impl Abort, alloc: Global) -> Result<bool, Stop> {
-    let recording = all_series(alloc)?;
-    let outcome = Outcome::of(alloc, CHECK, &recording)?;
-    Ok(outcome.says(1, "") && are_open(rt, alloc, outcome.text()))
-}
-
 // Their lines are longer than a buffer of lines.
 #[test]
-fn series_of_all_channels_are_incomplete(rt: HostRuntime) {
-    passes(&rt, &OF_ALL_SERIES, all_are_open(&rt, rt.alloc()));
-}
-
-fn is_too_long(alloc: Global) -> Result<bool, Stop> {
-    let recording = too_long(alloc)?;
-    let wanted = (1, OF_TOO_LONG.as_bytes());
-    Ok(writes(alloc, CHECK, &recording, ALL, wanted)?)
+fn series_of_all_channels_are_incomplete(rt: HostRuntime) -> Result<(), Stop> {
+    let recording = all_series(rt.alloc())?;
+    let outcome = Outcome::of(rt.alloc(), CHECK, &recording)?;
+    let are_all = are_open(&rt, rt.alloc(), outcome.text());
+    holds(&rt, &OF_ALL_SERIES, outcome.says(1, "") && are_all);
+    Ok(())
 }
 
 #[test]
-fn a_series_that_is_too_long_is_told(rt: HostRuntime) {
-    passes(&rt, &OF_TOO_LONG, is_too_long(rt.alloc()));
+fn a_series_that_is_too_long_is_told(rt: HostRuntime) -> Result<(), Stop> {
+    let recording = too_long(rt.alloc())?;
+    let wanted = (1, OF_TOO_LONG.as_bytes());
+    let is_told = writes(rt.alloc(), CHECK, &recording, ALL, wanted)?;
+    holds(&rt, &OF_TOO_LONG, is_told);
+    Ok(())
 }

@@ -4,7 +4,7 @@ use super::support::recordings::{
     AROUND_IDLE, BEGUN, ENDED, FIRST, FIVES, FOREIGN, FULL, LONG, TEN_FILLED, THROUGH,
     TM_TEN_LISTED, WITH_FECF, WITH_GAP, ZEROS, octets,
 };
-use super::support::rows::{Stop, passes};
+use super::support::rows::{Stop, holds, passes};
 use std::alloc::Global;
 
 // Recordings, and the listings of their anomalies.
@@ -131,15 +131,12 @@ fn listings_of_recordings(rt: HostRuntime) {
     }
 }
 
-// Whether a frame whose error control field is wrong is an anomaly.
-fn is_skipped(alloc: Global) -> Result<bool, Stop> {
-    let recording = octets(alloc, &WITH_FECF)?;
+#[test]
+fn a_frame_with_a_wrong_error_control_field_is_an_anomaly(rt: HostRuntime) -> Result<(), Stop> {
+    let recording = octets(rt.alloc(), &WITH_FECF)?;
     let link = Link::new(Kind::Tm, 34, true, 0, 1000)?;
     let wanted = b"0 skip fecf\nframes 2 skipped 1 packets 1 idle 1 anomalies 1\n";
-    Ok(link.writes(alloc, Verb::Check, &recording, wanted)?)
-}
-
-#[test]
-fn a_frame_with_a_wrong_error_control_field_is_an_anomaly(rt: HostRuntime) {
-    passes(&rt, &WITH_FECF, is_skipped(rt.alloc()));
+    let is_told = link.writes(rt.alloc(), Verb::Check, &recording, wanted)?;
+    holds(&rt, &WITH_FECF, is_told);
+    Ok(())
 }

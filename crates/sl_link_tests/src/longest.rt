@@ -1,9 +1,8 @@
 //! A packet of the greatest length, 65,542 octets, in 2,522 TM frames.
 use super::support::engines::ALL;
 use super::support::recordings::{front_of_longest, longest};
-use super::support::rows::{Stop, passes};
+use super::support::rows::{Stop, holds};
 use super::support::run::{Outcome, writes};
-use std::alloc::Global;
 
 const NORMALISE: &str = "sllink normalise tm --scid 1 --tm-length 32";
 
@@ -20,12 +19,6 @@ const WHOLE: &[u8] = b"frames 2522 skipped 0 packets 1 idle 1 anomalies 0\n";
 const FRONT: &[u8] =
     b"80640 open vc 0 octets 65520\nframes 2520 skipped 0 packets 0 idle 0 anomalies 1\n";
 
-fn is_form(alloc: Global) -> Result<bool, Stop> {
-    let recording = longest(alloc)?;
-    let is_form = writes(alloc, NORMALISE, &recording, ALL, (0, &recording))?;
-    Ok(recording.len() == 80_704 && is_form)
-}
-
 // Whether these are digits of data, and the end of a line.
 fn are_digits(data: &str) -> bool {
     for digit in data.as_bytes() {
@@ -36,29 +29,19 @@ fn are_digits(data: &str) -> bool {
     data.len() == 2 * 65_536 + 1 && data.ends_with("33\n")
 }
 
-fn is_listed(alloc: Global) -> Result<bool, Stop> {
-    let recording = longest(alloc)?;
-    let outcome = Outcome::of(alloc, PACKETS, &recording)?;
-    match outcome.text().strip_prefix(START) {
-        Some(data) => Ok(outcome.says(0, "") && are_digits(data)),
-        None => Ok(false),
-    }
-}
-
-fn is_whole_checked(alloc: Global) -> Result<bool, Stop> {
-    let recording = longest(alloc)?;
-    Ok(writes(alloc, CHECK, &recording, ALL, (0, WHOLE))?)
-}
-
-fn is_front_checked(alloc: Global) -> Result<bool, Stop> {
-    let recording = front_of_longest(alloc)?;
-    Ok(writes(alloc, CHECK, &recording, ALL, (1, FRONT))?)
-}
-
 #[test]
-fn a_longest_packet_of_tm(rt: HostRuntime) {
-    passes(&rt, &NORMALISE, is_form(rt.alloc()));
-    passes(&rt, &PACKETS, is_listed(rt.alloc()));
-    passes(&rt, &CHECK, is_whole_checked(rt.alloc()));
-    passes(&rt, &FRONT, is_front_checked(rt.alloc()));
+fn a_longest_packet_of_tm(rt: HostRuntime) -> Result<(), Stop> {
+    let alloc = rt.alloc();
+    let recording = longest(alloc)?;
+    let is_form = writes(alloc, NORMALISE, &recording, ALL, (0, &recording))?;
+    holds(&rt, &NORMALISE, recording.len() == 80_704 && is_form);
+    let outcome = Outcome::of(alloc, PACKETS, &recording)?;
+    let data = outcome.text().strip_prefix(START).unwrap_or("");
+    holds(&rt, &PACKETS, outcome.says(0, "") && are_digits(data));
+    let is_whole = writes(alloc, CHECK, &recording, ALL, (0, WHOLE))?;
+    holds(&rt, &CHECK, is_whole);
+    let front = front_of_longest(alloc)?;
+    let is_front = writes(alloc, CHECK, &front, ALL, (1, FRONT))?;
+    holds(&rt, &"without its last two frames", is_front);
+    Ok(())
 }

@@ -4,7 +4,7 @@ use super::support::recordings::{
     AROUND_IDLE, BEGUN, ENDED, FIRST, FOREIGN, FULL, HUNDRED, LONG, TEN, TEN_FILLED, THROUGH,
     WITH_GAP, ZEROS, octets,
 };
-use super::support::rows::{Stop, passes};
+use super::support::rows::{Stop, holds, passes};
 use std::alloc::Global;
 
 // The last octets of a packet of twenty-nine.
@@ -193,16 +193,13 @@ fn normal_forms_of_recordings(rt: HostRuntime) {
     }
 }
 
-// Whether all seven totals are these, where all goes octet by octet.
-fn are_counted(alloc: Global) -> Result<bool, Stop> {
-    let recording = octets(alloc, &COUNTED)?;
-    let form = octets(alloc, &THROUGH)?;
-    let link = Link::new(Kind::Tm, 32, false, 0, 100)?;
-    let answer = link.answer(alloc, Verb::Normalise, &recording, 1)?;
-    Ok(answer.is([100, 3, 1, 4, 3, 1, 0], &form))
-}
-
+// All seven totals, where all goes octet by octet.
 #[test]
-fn packets_are_counted(rt: HostRuntime) {
-    passes(&rt, &COUNTED, are_counted(rt.alloc()));
+fn packets_are_counted(rt: HostRuntime) -> Result<(), Stop> {
+    let recording = octets(rt.alloc(), &COUNTED)?;
+    let form = octets(rt.alloc(), &THROUGH)?;
+    let link = Link::new(Kind::Tm, 32, false, 0, 100)?;
+    let answer = link.answer(rt.alloc(), Verb::Normalise, &recording, 1)?;
+    holds(&rt, &COUNTED, answer.is([100, 3, 1, 4, 3, 1, 0], &form));
+    Ok(())
 }

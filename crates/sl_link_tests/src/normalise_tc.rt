@@ -4,7 +4,7 @@ use super::support::recordings::{
     BAD_LENGTH, DIVIDED, DIVIDED_FROM_255, FIRST_OF_3, IN_WINDOW, LAST_OF_3, LOCKED_OUT,
     MIDDLE_OF_3, MIXED, SECOND, THIRD, WHOLE, WITH_IDLE, filled, octets,
 };
-use super::support::rows::{Stop, passes};
+use super::support::rows::{Stop, holds, passes};
 use super::support::run::{normalises, writes};
 use std::alloc::{AllocError, Global};
 
@@ -114,23 +114,17 @@ fn series(alloc: Global, last: &[u8]) -> Result<Vec<u8>, AllocError> {
     Ok(frames)
 }
 
-// Whether a series of 104,872 octets is its own normal form.
-fn is_own_form(alloc: Global) -> Result<bool, Stop> {
-    let series = series(alloc, &LAST_OF_LONGEST)?;
-    let is_own = writes(alloc, NORMALISE, &series, ALL, (0, &series))?;
-    Ok(is_own && series.len() == 104_872)
-}
-
-// Whether one of an octet more has an empty one.
-fn is_given_up(alloc: Global) -> Result<bool, Stop> {
-    let series = series(alloc, &LAST_OF_LONGER)?;
-    Ok(writes(alloc, NORMALISE, &series, ALL, (0, &[]))?)
-}
-
+// A series of 104,872 octets is its own normal form, and one of an octet more has an empty one.
 #[test]
-fn a_longest_packet_has_its_normal_form(rt: HostRuntime) {
-    passes(&rt, &LAST_OF_LONGEST, is_own_form(rt.alloc()));
-    passes(&rt, &LAST_OF_LONGER, is_given_up(rt.alloc()));
+fn a_longest_packet_has_its_normal_form(rt: HostRuntime) -> Result<(), Stop> {
+    let alloc = rt.alloc();
+    let longest = series(alloc, &LAST_OF_LONGEST)?;
+    let is_own = writes(alloc, NORMALISE, &longest, ALL, (0, &longest))?;
+    holds(&rt, &LAST_OF_LONGEST, is_own && longest.len() == 104_872);
+    let longer = series(alloc, &LAST_OF_LONGER)?;
+    let is_given_up = writes(alloc, NORMALISE, &longer, ALL, (0, &[]))?;
+    holds(&rt, &LAST_OF_LONGER, is_given_up);
+    Ok(())
 }
 
 fn is_counted(alloc: Global, case: &Counted) -> Result<bool, Stop> {

@@ -4,7 +4,7 @@ use super::support::recordings::{
     BAD_LENGTH, FIRST_OF_3, IN_WINDOW, LAST_OF_3, LOCKED_OUT, MIDDLE_OF_3, SKIPPED, UNLOCK_DAMAGED,
     UNLOCK_WITH_FECF, WHOLE, octets,
 };
-use super::support::rows::{Stop, passes};
+use super::support::rows::{Stop, holds, passes};
 use super::support::run::{Outcome, lists};
 use sl_link::LinkFault;
 use std::alloc::{AllocError, Global};
@@ -136,16 +136,17 @@ fn tc_frames_are_listed(rt: HostRuntime) {
     }
 }
 
-fn is_counted(alloc: Global) -> Result<bool, Stop> {
-    let recording = octets(alloc, &COUNTED)?;
-    let link = Link::new(Kind::Tc, 16, false, 0, 30)?;
-    let answer = link.answer(alloc, Verb::Show, &recording, 1)?;
-    Ok(answer.is([30, 2, 1, 7, 0, 0, 0], COUNTED_SHOWN))
-}
-
 #[test]
-fn tc_totals_are_counted(rt: HostRuntime) {
-    passes(&rt, &COUNTED, is_counted(rt.alloc()));
+fn tc_totals_are_counted(rt: HostRuntime) -> Result<(), Stop> {
+    let recording = octets(rt.alloc(), &COUNTED)?;
+    let link = Link::new(Kind::Tc, 16, false, 0, 30)?;
+    let answer = link.answer(rt.alloc(), Verb::Show, &recording, 1)?;
+    holds(
+        &rt,
+        &COUNTED,
+        answer.is([30, 2, 1, 7, 0, 0, 0], COUNTED_SHOWN),
+    );
+    Ok(())
 }
 
 // 20,000 frames, a bad length, and 300,000 octets after it.
@@ -161,18 +162,16 @@ fn many_frames(alloc: Global) -> Result<Vec<u8>, AllocError> {
     Ok(recording)
 }
 
-fn is_long_listed(alloc: Global) -> Result<bool, Stop> {
-    let recording = many_frames(alloc)?;
-    let link = Link::new(Kind::Tc, 16, false, 0, 1_000_000)?;
-    let answer = link.answer(alloc, Verb::Show, &recording, ALL)?;
-    let counts = [440_005, 20_000, 0, 300_005, 0, 0, 0];
-    Ok(answer.counts() == counts && answer.text().ends_with(LAST_OF_MANY))
-}
-
 // Frames lie across the end of the engine's buffer, and the remainder is longer than the buffer.
 #[test]
-fn a_recording_longer_than_the_buffer_is_listed(rt: HostRuntime) {
-    passes(&rt, &LAST_OF_MANY, is_long_listed(rt.alloc()));
+fn a_recording_longer_than_the_buffer_is_listed(rt: HostRuntime) -> Result<(), Stop> {
+    let recording = many_frames(rt.alloc())?;
+    let link = Link::new(Kind::Tc, 16, false, 0, 1_000_000)?;
+    let answer = link.answer(rt.alloc(), Verb::Show, &recording, ALL)?;
+    let counts = [440_005, 20_000, 0, 300_005, 0, 0, 0];
+    holds(&rt, &counts, answer.counts() == counts);
+    holds(&rt, &LAST_OF_MANY, answer.text().ends_with(LAST_OF_MANY));
+    Ok(())
 }
 
 // Whether a run has this status, and what is written by the limit is a front of the listing.

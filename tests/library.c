@@ -7,7 +7,6 @@
  *     library memory < JOBS      the same, with each allocation refused in turn
  *     library threads < JOBS     all jobs in each of four threads at once
  *     library stack < JOBS       how much stack a call takes
- *     library time ROUNDS < JOBS how long a call takes, in microseconds
  *
  * A job is a line: VERB KIND MANAGED RECORDING OUTPUT, where MANAGED are the octets of an
  * sllink_managed in hexadecimal, and `same` as the verb has the second recording as its output.
@@ -21,7 +20,6 @@
 #include <stdio.h>
 #include <stdlib.h>
 #include <string.h>
-#include <time.h>
 
 static int failures;
 
@@ -702,34 +700,6 @@ static void stack(void) {
     printf("%zu octets of stack, other calls %zu\n", most, other);
 }
 
-/* ---- time ---- */
-
-static long rounds;
-
-static double now(void) {
-    struct timespec it;
-    clock_gettime(CLOCK_MONOTONIC, &it);
-    return 1e6 * (double)it.tv_sec + 1e-3 * (double)it.tv_nsec;
-}
-
-static void times(void) {
-    for (job it; next_job(&it); end_job(&it)) {
-        size_t room = 4 * it.recording.length + (1 << 20), size;
-        uint8_t *output = block_of(NULL, room);
-        bool same;
-        memset(output, 0, room);
-        double least = 1e300;
-        for (long round = 0; round < rounds; round++) {
-            double before = now();
-            CHECK(answer_of(&it, output, room, &size, &same) == SLLINK_DONE);
-            double taken = now() - before;
-            least = taken < least ? taken : least;
-        }
-        printf("%s %s %zu octets %.1f us\n", it.verb, it.kind, it.recording.length, least);
-        free(output);
-    }
-}
-
 #define CALL(name, size, FIELDS) name();
 static void calls(void) {
     error_control();
@@ -743,14 +713,13 @@ int main(int argc, char **argv) {
     static const struct {
         const char *name;
         void (*runs)(void);
-    } modes[] = {{"calls", calls},     {"jobs", jobs},   {"memory", memory},
-                 {"threads", threads}, {"stack", stack}, {"time", times}};
-    rounds = argc == 3 ? atol(argv[2]) : 0;
-    for (size_t i = 0; argc > 1 && i < sizeof modes / sizeof *modes; i++)
-        if (strcmp(argv[1], modes[i].name) == 0 && argc == 2 + (modes[i].runs == times)) {
+    } modes[] = {{"calls", calls}, {"jobs", jobs}, {"memory", memory}, {"threads", threads},
+                 {"stack", stack}};
+    for (size_t i = 0; argc == 2 && i < sizeof modes / sizeof *modes; i++)
+        if (strcmp(argv[1], modes[i].name) == 0) {
             modes[i].runs();
             return failures > 0;
         }
-    fprintf(stderr, "library: calls, jobs, memory, threads, stack, or time ROUNDS\n");
+    fprintf(stderr, "library: calls, jobs, memory, threads, or stack\n");
     return 2;
 }

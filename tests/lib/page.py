@@ -10,79 +10,58 @@ the standard error.
 
 import re
 import sys
-from html.parser import HTMLParser
+from xml.etree import ElementTree
 
-VOID = {"meta", "link", "img", "br", "hr", "input"}
+START = '<!doctype html>\n<html lang="en">'
 IN_LINE = {"td", "th", "dt", "dd", "b", "code", "a"}
 
 
-class Page(HTMLParser):
-    def __init__(self):
-        super().__init__()
-        self.open, self.complaints, self.ids, self.seen = [], [], set(), []
-        self.lines, self.language = [""], None
+def name_of(it):
+    return it.tag.rpartition("}")[2]                      # in a picture names have a namespace before them
 
-    def handle_starttag(self, tag, attrs):
-        attributes = dict(attrs)
-        self.seen.append(tag)
-        if tag not in VOID:
-            self.open.append(tag)
-            if tag not in IN_LINE:
-                self.lines.append("")
-        if tag == "html":
-            self.language = attributes.get("lang")
-        if tag == "th" and attributes.get("scope") not in ("col", "row"):
-            self.complaints.append("a head of a table without a scope")
-        if tag == "svg" and (attributes.get("role") != "img" or not attributes.get("aria-label")):
-            self.complaints.append("a picture without words")
-        if tag in ("script", "link", "img", "iframe", "object"):
-            self.complaints.append(f"an element {tag}")
-        for name, value in attributes.items():
-            if name.startswith("on") or name in ("src", "href") or "url(" in (value or "").replace("url(#", ""):
-                self.complaints.append(f"an attribute {name}={value}")
-        if "id" in attributes:
-            if attributes["id"] in self.ids:
-                self.complaints.append(f"the id {attributes['id']} twice")
-            self.ids.add(attributes["id"])
 
-    def handle_endtag(self, tag):
-        if tag in VOID:
-            return
-        if not self.open or self.open[-1] != tag:
-            self.complaints.append(f"</{tag}> in {' '.join(self.open[-3:])}")
-        else:
-            self.open.pop()
-        if tag in IN_LINE - {"dd"}:
-            self.lines[-1] += " "
-        else:
-            self.lines.append("")
+def wrong(it):
+    """What is wrong with an element."""
+    tag = name_of(it)
+    if tag == "th" and it.get("scope") not in ("col", "row"):
+        yield "a head of a table without a scope"
+    if tag == "svg" and (it.get("role") != "img" or not it.get("aria-label")):
+        yield "a picture without words"
+    if tag in ("script", "link", "img", "iframe", "object"):
+        yield f"an element {tag}"
+    if tag == "style" and re.search(r"url\((?!#)|@import", it.text):
+        yield "a style from elsewhere"
+    for name, value in it.attrib.items():
+        if name.startswith("on") or name in ("src", "href") or "url(" in value.replace("url(#", ""):
+            yield f"an attribute {name}={value}"
 
-    def handle_data(self, data):
-        if self.open and self.open[-1] == "style":
-            if re.search(r"url\((?!#)|@import", data):
-                self.complaints.append("a style from elsewhere")
-        elif "svg" not in self.open:
-            self.lines[-1] += data
+
+def text_of(it):
+    """The text of an element, but for pictures and styles."""
+    end = " " if name_of(it) in IN_LINE - {"dd"} else "\n"
+    parts = [it.text, *(part for of in it for part in (text_of(of), of.tail))]
+    parts = [] if name_of(it) in ("svg", "style") else parts
+    inner = "".join(filter(None, parts))
+    return ("" if name_of(it) in IN_LINE else "\n") + inner + end
 
 
 def main():
-    page = Page()
     words = sys.stdin.buffer.read().decode()
-    page.feed(words)
-    page.close()
-    if page.open:
-        page.complaints.append(f"not closed: {' '.join(page.open)}")
-    for tag in "title", "h1", "main", "body":
-        if tag not in page.seen:
-            page.complaints.append(f"no {tag}")
-    if page.seen.count("h1") != 1:
-        page.complaints.append("not one h1")
-    if not words.startswith("<!doctype html>") or page.language != "en":
-        page.complaints.append("no document type or language")
-    print("\n".join(filter(None, (line.strip() for line in page.lines))))
-    for complaint in page.complaints:
+    complaints = [] if words.startswith(START) else ["no document type or language"]
+    try:
+        page = ElementTree.fromstring(re.sub(r"(<meta [^>]*)>", r"\1/>", words.partition("\n")[2]))
+    except ElementTree.ParseError as error:
+        print(f"not well formed: {error}", file=sys.stderr)
+        return 1
+    seen, ids = [name_of(it) for it in page.iter()], [it.get("id") for it in page.iter() if it.get("id")]
+    complaints += [said for it in page.iter() for said in wrong(it)]
+    complaints += [f"no {tag}" for tag in ("title", "main", "body") if tag not in seen]
+    complaints += ["not one h1"] * (seen.count("h1") != 1)
+    complaints += ["an id twice"] * (len(ids) != len(set(ids)))
+    print("\n".join(filter(None, map(str.strip, text_of(page).split("\n")))))
+    for complaint in complaints:
         print(complaint, file=sys.stderr)
-    return 1 if page.complaints else 0
+    return 1 if complaints else 0
 
 
 if __name__ == "__main__":

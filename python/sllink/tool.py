@@ -12,7 +12,8 @@ import signal
 import stat
 import subprocess
 import sys
-from typing import Any, Callable, Iterator, List, NoReturn, Optional, Union
+from collections import deque
+from typing import Any, Callable, Dict, Iterator, List, NoReturn, Optional, Tuple, Union
 
 from . import __version__
 from ._fault import SllinkError, shown as shown              # pylint: disable=useless-import-alias
@@ -116,6 +117,24 @@ def _identify(recording: str) -> List[str]:
         return []
     lines = os.fsdecode(asked.stdout)[len(shown(recording)) + 2:].splitlines()
     return lines if asked.returncode in (0, 1) and len(lines) > 1 else []
+
+
+def divided(words: List[str], valued: Dict[str, str]) -> Tuple[List[str], List[Tuple[str, str]]]:
+    """The words without the options of a tool that have a value, and these with their values. `valued` has what each of
+    them wants."""
+    # not by argparse, which refuses `--a-options --tm-fecf`, as a value begins with a dash there
+    others: List[str] = []
+    own: List[Tuple[str, str]] = []
+    rest = deque(words)
+    while rest:
+        name, equals, value = (word := rest.popleft()).partition("=")
+        if name not in valued:
+            others.append(word)
+        elif equals or rest:
+            own.append((name, value if equals else rest.popleft()))
+        else:
+            raise Refused(f"{name} wants {valued[name]}")
+    return others, own
 
 
 def own_options(name: str, text: str) -> List[str]:

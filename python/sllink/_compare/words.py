@@ -71,32 +71,29 @@ repository.
 """
 
 import os
-from collections import deque
-from typing import Deque, List, Optional, Set, Tuple
+from typing import List, Optional, Set, Tuple
 
 from .._check_words import CHECK_WORDS
 from .._questions import QUESTIONS
-from ..tool import Refused, State, own_options, require_name, shown
+from ..tool import Refused, State, divided, own_options, require_name, shown
 
 HELP = __doc__
 NAME = "sllink-compare"
 USAGE = f"usage: {NAME} tm|tc A B --scid N [OPTION..]; --help says more"
 ALLOWED = [*CHECK_WORDS, *QUESTIONS]
-VALUED = ("--allow", "--a-options", "--b-options", "--union")
+VALUED = {"--allow": f"words of: {' '.join(ALLOWED)}",
+          **dict.fromkeys(["--a-options", "--b-options", "--union"], "a value")}
 
 
 class Words:
     """What the command line asks for."""
 
-    # not by argparse, which refuses `--a-options --tm-fecf`, as a value begins with a dash there
     def __init__(self, words: List[str]) -> None:
         if len(words) < 3 or words[0] not in ("tm", "tc"):
             raise Refused(USAGE if len(words) < 3 else f"{words[0]}: is no kind of recording; {USAGE}")
         self.kind, self.recordings = words[0], words[1:3]
         self.allowed: Set[str] = set()
-        self.hex, self.lines = False, False
         self.union: Optional[str] = None
-        self.common: List[str] = []
         self.own: Tuple[List[str], List[str]] = ([], [])
         for recording in self.recordings:
             if recording.startswith("--"):
@@ -104,30 +101,16 @@ class Words:
                               f"{USAGE}")
             require_name(recording)
         self.states = [State(recording) for recording in self.recordings]
-        rest = deque(words[3:])
-        while rest:
-            self._take(rest.popleft(), rest)
-
-    def _take(self, word: str, rest: Deque[str]) -> None:
-        name, equals, value = word.partition("=")
-        if name in VALUED:
-            if not equals:
-                if not rest:
-                    raise Refused(f"{name} wants words of: {' '.join(ALLOWED)}" if name == "--allow" else
-                                  f"{name} wants a value")
-                value = rest.popleft()
+        others, own = divided(words[3:], VALUED)
+        for name, value in own:
             if name == "--allow":
                 self._allow(value)
             elif name == "--union":
                 self.union = self._output(value)
             else:
                 self.own[name == "--b-options"].extend(own_options(name, value))
-        elif word == "--hex":
-            self.hex = True
-        elif word == "--lines":
-            self.lines = True
-        else:
-            self.common.append(word)
+        self.hex, self.lines = "--hex" in others, "--lines" in others
+        self.common = [word for word in others if word not in ("--hex", "--lines")]
 
     def _allow(self, value: str) -> None:
         for word in value.replace(",", " ").split():

@@ -32,10 +32,6 @@ sllink-identify says of the recording:
     nothing           a recording delivers no packet
     most              more than half of the frames of a recording are skipped
 
-Options are held against the frames in five things alone: an error control field that is there or isn't, the length of
-the frames, their spacecraft, randomisation, and sync markers. Of TC frames the length contradicts where more than a
-tenth of them are longer than --tc-length.
-
 Where packets differ, those that only one recording has are listed by channel, after `<` for A and `>` for B,
 in runs of the packet sequence count, as in
 
@@ -61,10 +57,6 @@ Example: one station strips the error control field, and both lost frames:
 
     sllink-compare tm a.tm b.tm --scid 1 --a-options --tm-fecf \\
         --b-options '--tm-length 1113' --allow skip,gap,dropped
-
-Example: one recording of an uplink begins where the next frame has N(S) 77:
-
-    sllink-compare tc up.tc mid.tc --scid 1 --b-options '--vr-of 0:77'
 
 The program is $SLLINK, else `sllink` on the PATH, else the one installed with this tool or built in the
 repository.

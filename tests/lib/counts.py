@@ -83,25 +83,19 @@ def add(what: str, status: int, lines: List[str]) -> None:
         ok(False, f"{what}: it ended with status {status}{'' if found else ', and without such a line'}")
 
 
-def in_turn(commands: Sequence[str]) -> None:
-    """Runs commands one after another, and shows what they print as it comes."""
-    for command in commands:
-        lines: List[str] = []
-        with subprocess.Popen(command, shell=True, stdout=subprocess.PIPE, text=True, errors="replace") as it:
-            for line in it.stdout or ():
-                lines = [line]
-                print(line, end="", flush=True)
-        add(command, it.returncode, lines)
-
-
-def side_by_side(commands: Sequence[List[str]], jobs: int) -> None:
-    """Runs commands, so many at a time, and shows what each printed when it has ended."""
+def run_all(commands: Sequence[List[str]], jobs: int = 1) -> None:
+    """Runs commands, so many at a time, and shows what each prints: as it comes, or, of several, when it has ended."""
     def run(command: List[str]) -> Tuple[int, List[str]]:
-        done = subprocess.run(command, stdin=subprocess.DEVNULL, stdout=subprocess.PIPE, stderr=subprocess.STDOUT,
-                              text=True, errors="replace", check=False)
-        what = " ".join(os.path.relpath(word, ROOT) if word.startswith(ROOT) else word for word in command)
-        print(f"{what}\n{done.stdout}", end="", flush=True)
-        return done.returncode, done.stdout.splitlines()
+        lines: List[str] = []
+        with subprocess.Popen(command, stdin=subprocess.DEVNULL, stdout=subprocess.PIPE, text=True,
+                              stderr=subprocess.STDOUT if jobs > 1 else None, errors="replace") as it:
+            for line in it.stdout or ():
+                lines.append(line)
+                print(line * (jobs == 1), end="", flush=True)
+        if jobs > 1:
+            what = " ".join(os.path.relpath(word, ROOT) if word.startswith(ROOT) else word for word in command)
+            print(f"{what}\n{''.join(lines)}", end="", flush=True)
+        return it.returncode, lines
 
     with ThreadPoolExecutor(jobs) as pool:
         for command, (status, lines) in zip(commands, pool.map(run, commands)):
@@ -109,5 +103,5 @@ def side_by_side(commands: Sequence[List[str]], jobs: int) -> None:
 
 
 if __name__ == "__main__":
-    in_turn(sys.argv[1:])
+    run_all([["sh", "-c", word] for word in sys.argv[1:]])
     sys.exit(finish())

@@ -353,18 +353,6 @@ class Recordings(Way):
         for it in FIRST, str(FIRST), os.fsencode(FIRST):
             self.check(it)
 
-    def test_names_at_which_a_shell_could_stumble(self):
-        self.addCleanup(os.chdir, os.getcwd())
-        os.chdir(self.folder)
-        for name in b"$(touch made)", b"-rf", b"--help", b"a name & 'more' \"..\"", b"two\nlines", b"\xff\xfe.tm", b";":
-            path = os.path.join(os.fsencode(self.folder), name)
-            with open(path, "wb") as file:
-                file.write(self.octets)
-            self.check(path)
-            self.check(os.fsdecode(name))
-        self.refused(2, "", sllink.frames, "tm", "-rf", ["--scid", "$(touch made)"])
-        self.assertFalse(os.path.exists("made"))
-
     def test_file_objects(self):
         head, archive = self.file("a", b"head" + self.octets), self.file("a.gz", gzip.compress(self.octets))
         with open(FIRST, "rb") as file, open(FIRST, "rb") as buffered, open(FIRST, "rb", buffering=0) as raw, \
@@ -630,6 +618,7 @@ class Identifications(InAFolder):
         for path, read in ((FIRST, ("tm", STATION)),
                            (EXAMPLES / "plain.tc", ("tc", sllink.Options(1, plain=[5], vr_of={0: 0, 5: 57}))),
                            (self.file("short", octets[:64]), (None, None)),
+                           (self.file("few", PASS.read_bytes()[:192]), (None, None)),
                            (self.file("shifted", octets[:100] + octets[110:]), (None, None)),
                            (self.file("packed", gzip.compress(octets)), (None, None)),
                            (self.file("empty", b""), (None, None))):
@@ -640,18 +629,7 @@ class Identifications(InAFolder):
                 words = f"{' '.join(found.words)}\n" if found.words else ""
                 self.assertEqual(ran("sllink-identify", "--options", path), (0 if words else 1, words))
                 self.assertEqual(found.why is None, bool(found.commands))
-
-    def test_read_with_what_is_found(self):
-        found = sllink.identify(FIRST)
-        self.assertEqual(found.what, "TM transfer frames of 32 octets")
-        self.assertIn("error control field yes right 11", found.lines)
-        self.assertEqual(normalised(found.kind, FIRST, found.options), normalised("tm", FIRST, STATION))
-
-    def test_not_identified(self):
-        """What only seems to be is no command and no option."""
-        found = sllink.identify(self.file("few", PASS.read_bytes()[:192]))
-        self.assertEqual((found.words, found.commands), ((), ()))
-        self.assertEqual(str(found).splitlines()[-1], f"can't say: {found.why}")
+                self.assertLessEqual(bool(found.words), bool(found.commands))
 
     def test_paths(self):
         found = sllink.identify(FIRST)
@@ -734,24 +712,13 @@ class Differences(Way):
                 self.found(FIRST, os.devnull, STATION)
 
 
-class Tools(InAFolder):
+class Tools(unittest.TestCase):
     """What the tools share."""
 
     def test_shown(self):
         for name, shown in (("pass.tm", "pass.tm"), ("two\nlines\t\x1b[1m", "two\\nlines\\t\\x1b[1m"),
                             (b"\xff.tm", "\\xff.tm"), ("Überflug.tm", "Überflug.tm"), ("", "''")):
             self.assertEqual(tool.shown(name), shown)
-
-    def test_require_file(self):
-        tool.require_file(PASS)
-        os.mkfifo(self.folder / "fifo")
-        tool.require_file(self.folder / "fifo", again=False)
-        (self.folder / "empty").touch()
-        tool.require_file(self.folder / "empty")
-        for path, said in ((self.folder / "none", "there is no such file"), (self.folder, "is a folder"),
-                           (self.folder / "fifo", "more than once"), ("a\0b", "null")):
-            with self.assertRaisesRegex(tool.Refused, said):
-                tool.require_file(path)
 
 
 if __name__ == "__main__":

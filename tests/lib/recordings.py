@@ -1,6 +1,6 @@
-"""Random recordings for tests/identify and tests/compare, each with what it is: the same ones for the same random
+"""Random recordings for tests/identify and tests/library, each with what it is: the same ones for the same random
 numbers. A recording has several virtual channels, packets that run through frames, idle frames and idle packets, lost
-frames, frames with bit errors, and, where that is asked for, octets that are lost within frames."""
+frames, frames with bit errors, and, where that is asked for, octets that are missing or too many."""
 
 from binascii import crc_hqx
 from collections import namedtuple
@@ -180,9 +180,9 @@ def cut(random, frames, whole, cuts):
     return b"".join(parts), [frame for frame, is_whole in zip(frames, whole) if is_whole]
 
 
-def recording(random, kind, frames=None, shifts=0, noise=None, cuts=0):
+def recording(random, kind, frames=None, noise=None, cuts=0):
     """A random recording. `noise` is the share of the frames that are lost, and of those that have bit errors. Octets
-    are lost at `shifts` places, and are missing or too many at `cuts` frames."""
+    are missing or too many at `cuts` frames."""
     losses, errors = (noise, noise) if noise is not None else (random.choice((0, random.random() / 20)) for _ in "12")
     scid = random.choice((0, 1, 1023, *(random.randrange(1024) for _ in range(17))))
     fecf = random.random() < 0.5
@@ -202,6 +202,4 @@ def recording(random, kind, frames=None, shifts=0, noise=None, cuts=0):
     kept = [frame if is_whole else flipped(random, frame) for frame, is_whole in sent]
     length = max(map(len, kept), default=0)
     octets, whole = cut(random, kept, [is_whole for _, is_whole in sent], cuts)
-    for place in sorted(random.randrange(len(octets)) for _ in range(shifts)):
-        octets = octets[:place] + octets[place + random.randint(1, length - 1):]
     return Recording(kind, octets, scid, length, fecf, tuple(plain), starts, len(kept), whole)

@@ -5,7 +5,6 @@ from xml.sax.saxutils import escape, quoteattr
 
 from ._check_words import CELLED, MARKS
 from ._survey import ABOUT, BINS, FLAGS, MARKED, NOT_READ, Cell, Mark, Survey
-from ._svg import box, text, width
 
 WIDTH, LEFT, MARGIN, ENDS = 1100, 120, 24, 104            # of the picture, the labels, the right margin, the rows' ends
 CELL, MARK, BAR, SPACE = 26, 14, 6, 16                    # heights: of a cell, a mark, a bar, between rows
@@ -40,6 +39,22 @@ STYLE = "".join([
     *(f".pass .f-{flag.split()[0]}{{fill:{colour}}}" for flag, colour in FLAG_COLOURS.items()),
     ".pass .rest-back{fill:#fff}.pass .rest-line{fill:#6b6b6b}",
 ])
+
+
+def width(words: str, size: float) -> float:
+    """About how wide words are."""
+    return sum(0.4 if letter in "fijlrt ,.:()" else 0.95 if letter in "mwMW" else 0.65 for letter in words) * size
+
+
+def text(x: float, y: float, words: str, *, anchor: str = "start", size: int = 12, weight: str = "",
+         kind: str = "") -> str:
+    more = (f' class="{kind}"' if kind else "") + (f' text-anchor="{anchor}"' if anchor != "start" else "")
+    more += f' font-weight="{weight}"' if weight else ""
+    return f'<text x="{x:.1f}" y="{y:.1f}" font-size="{size}"{more}>{escape(words)}</text>'
+
+
+def box(x: float, y: float, wide: float, high: float, kind: str) -> str:
+    return f'<rect x="{x:.1f}" y="{y:.1f}" width="{wide:.1f}" height="{high:.1f}" class="{kind}"/>'
 
 
 class Sign(NamedTuple):

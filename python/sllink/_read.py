@@ -94,7 +94,7 @@ def normal_form(kind: str, recording: Recording, output: Union[str, bytes, "os.P
     program refuses something or stops while it reads, nothing is written, and a file that is there stays as it is."""
     if isinstance(output, int):
         raise TypeError(f"the normal form goes to a path or a binary file object: {output!r}")
-    with _form(kind, recording, options, program) as form:
+    with form_of(kind, recording, options, program) as form:
         first = next(form, b"")
         with ExitStack() as opened:
             file: Any = output if hasattr(output, "write") else opened.enter_context(open(output, "wb"))
@@ -103,7 +103,7 @@ def normal_form(kind: str, recording: Recording, output: Union[str, bytes, "os.P
 
 
 @contextmanager
-def _form(kind: str, recording: Recording, options: Words, program: Program) -> Iterator[Iterator[bytes]]:
+def form_of(kind: str, recording: Recording, options: Words, program: Program = None) -> Iterator[Iterator[bytes]]:
     """The normal form of a recording, in parts; of a library all at once."""
     if isinstance(program, Library):
         yield iter([program.text("normalise", kind, recording, options)])
@@ -137,7 +137,7 @@ def same_packets(kind: str, a: Recording, b: Recording, options: Words, b_option
             packets(kind, b, b_options, program=program))
     if isinstance(program, Library):
         return program.same_packets(kind, a, b, options)
-    with _form(kind, a, options, program) as one, _form(kind, b, options, program) as other:
+    with form_of(kind, a, options, program) as one, form_of(kind, b, options, program) as other:
         return all(here == there for here, there in zip_longest(one, other))
 
 

@@ -6,12 +6,13 @@ import sys
 from contextlib import ExitStack, closing
 from hashlib import blake2b
 from itertools import islice
-from typing import BinaryIO, Callable, Iterator, List, Optional, cast
+from typing import Callable, Iterator, List, Optional, Tuple
 
-from .. import SllinkError, lines, normal_form
+from .. import SllinkError, lines
 from .._check_words import CHECK_WORDS
 from .._program import packet_lines
 from .._questions import doubted, unanswered
+from .._read import form_of
 from ..tool import Refused, about, shown
 from .difference import Difference, Hunk, Runs
 from .store import Channel, Packets, room
@@ -81,27 +82,21 @@ def require_none(doubts: List[str]) -> None:
 
 # Normal forms.
 
-class Digest:
-    """A file that keeps the digest of what is written to it, and whether it is empty."""
-
-    def __init__(self) -> None:
-        self.sum, self.empty = blake2b(), True
-
-    def write(self, octets: bytes) -> None:
-        """Takes octets."""
-        self.sum.update(octets)
-        self.empty = False
-
-
-def normal_form_of(words: Words, side: int, output: Digest) -> None:
-    """Writes the normal form of a recording. Raises MemoryError where memory is short, also if the system then ends the
-    program."""
-    try:
-        normal_form(words.kind, words.recordings[side], cast(BinaryIO, output), words.options(side))
-    except SllinkError as error:
-        if error.status == -signal.SIGKILL or error.text == "sllink: memory":
-            raise MemoryError from None
-        raise
+def digest_of(it: Checked) -> Tuple[bytes, int]:
+    """The digest of the normal form of a recording, and how many octets it has. MemoryError: memory is short, also if
+    the system then ends the program."""
+    digest, size = blake2b(), 0
+    with about(it.recording):
+        try:
+            with form_of(it.kind, it.recording, it.options) as parts:
+                for octets in parts:
+                    digest.update(octets)
+                    size += len(octets)
+        except SllinkError as error:
+            if error.status == -signal.SIGKILL or error.text == "sllink: memory":
+                raise MemoryError from None
+            raise
+    return digest.digest(), size
 
 
 def same_forms(words: Words, checked: List[Checked]) -> Optional[bool]:
@@ -109,20 +104,18 @@ def same_forms(words: Words, checked: List[Checked]) -> Optional[bool]:
     if words.lines or words.union or not words.alike or any(
             os.stat(recording).st_size > LARGE for recording in words.recordings):
         return None
-    sums = []
-    for side, recording in enumerate(words.recordings):
-        digest = Digest()
+    digests = []
+    for it, state in zip(checked, words.states):
         try:
-            with about(recording):
-                normal_form_of(words, side, digest)
+            digest, size = digest_of(it)
         except MemoryError:
             return None
-        words.states[side].require_unchanged()
-        if digest.empty != (checked[side].packets == 0):
-            raise Refused(f"{shown(recording)}: check counts packets {checked[side].packets}, and the normal form is "
-                          + ("empty" if digest.empty else "not empty"))
-        sums.append(digest.sum.digest())
-    return sums[0] == sums[1]
+        state.require_unchanged()
+        if (size == 0) != (it.packets == 0):
+            raise Refused(f"{shown(it.recording)}: check counts packets {it.packets}, and the normal form is "
+                          + ("not empty" if size else "empty"))
+        digests.append(digest)
+    return digests[0] == digests[1]
 
 
 # The lines of packets.

@@ -2,7 +2,7 @@
  * What tests/library runs in C: every call of sllink.h, and recordings that it compares with the
  * program's output.
  *
- *     library calls              each call, at lengths of 0 and 1 and at the edges, and refusals
+ *     library calls              each call, and refusals of those over recordings
  *     library jobs < JOBS        the text of each job, with no room, one octet too few, and enough
  *     library memory < JOBS      the same, with each allocation refused in turn
  *     library threads < JOBS     all jobs in each of four threads at once
@@ -56,221 +56,6 @@ static uint8_t *block_of(const void *octets, size_t length) {
     if (octets != NULL)
         memcpy(block, octets, length);
     return block;
-}
-
-/* ---- chance ---- */
-
-static uint32_t state = 1;
-
-static uint32_t chance(uint32_t below) {
-    state = state * 1664525u + 1013904223u;
-    return (state >> 8) % below;
-}
-
-static void fill(uint8_t *octets, size_t length) {
-    for (size_t i = 0; i < length; i++)
-        octets[i] = (uint8_t)chance(256);
-}
-
-/* ---- the frame error control field ---- */
-
-/* Bit by bit. */
-static uint16_t field_of(const uint8_t *octets, size_t length) {
-    uint16_t register_ = 0xFFFF;
-    for (size_t i = 0; i < 8 * length; i++) {
-        int out = register_ >> 15 ^ (octets[i / 8] >> (7 - i % 8) & 1);
-        register_ = (uint16_t)(register_ << 1 ^ (out ? 0x1021 : 0));
-    }
-    return register_;
-}
-
-static void error_control(void) {
-    CHECK(sllink_fecf((const uint8_t *)"123456789", 9) == 0x29B1);
-    for (size_t length = 0; length < 70; length++) {
-        uint8_t *octets = block_of(NULL, length);
-        fill(octets, length);
-        CHECK(sllink_fecf(octets, length) == field_of(octets, length));
-        CHECK(
-            sllink_fecf_good(octets, length)
-            == (length > 2
-                && field_of(octets, length - 2) == (octets[length - 2] << 8 | octets[length - 1])));
-        if (length > 2) {
-            uint16_t field = field_of(octets, length - 2);
-            octets[length - 2] = (uint8_t)(field >> 8);
-            octets[length - 1] = (uint8_t)field;
-            CHECK(sllink_fecf_good(octets, length));
-            octets[chance((uint32_t)length)] ^= 0x10;
-            CHECK(!sllink_fecf_good(octets, length));
-        }
-        free(octets);
-    }
-}
-
-/* ---- headers ---- */
-
-/* The number that `width` bits have, from bit `from` on. */
-static unsigned bits(const uint8_t *octets, unsigned from, unsigned width) {
-    unsigned number = 0;
-    for (unsigned i = from; i < from + width; i++)
-        number = number << 1 | (octets[i / 8] >> (7 - i % 8) & 1);
-    return number;
-}
-
-/* Reads octets, looks at each field, writes them again; and of a field that is narrower than its
- * type, a number that is one too great is refused, and so is the greatest of the type. FIELDS has
- * all fields in their order, each with the number of its bits: narrow ones, and others. */
-#define IS(field, width)                                                                           \
-    CHECK((unsigned)h.field == bits(octets, from, width));                                         \
-    from += width;
-#define IS_REFUSED(field, width)                                                                   \
-    h = kept;                                                                                      \
-    h.field = 1u << width;                                                                         \
-    CHECK(write(&h, again) == SLLINK_FIELD);                                                       \
-    h.field = 0;                                                                                   \
-    h.field--;                                                                                     \
-    CHECK(write(&h, again) == SLLINK_FIELD);
-#define NOTHING(field, width)
-#define HEADER(name, size, FIELDS)                                                                 \
-    static void name(void) {                                                                       \
-        sllink_answer (*write)(const sllink_##name *, uint8_t *) = sllink_##name##_write;          \
-        for (int round = 0; round < 300; round++) {                                                \
-            uint8_t *octets = block_of(NULL, size), *again = block_of(NULL, size);                 \
-            unsigned from = 0;                                                                     \
-            fill(octets, size);                                                                    \
-            if (round < 2)                                                                         \
-                memset(octets, round ? 0xFF : 0, size);                                            \
-            sllink_##name h = {0};                                                                 \
-            sllink_##name##_read(octets, &h);                                                      \
-            FIELDS(IS, IS)                                                                         \
-            CHECK(from == 8 * size);                                                               \
-            memset(again, 0xA5, size);                                                             \
-            CHECK(write(&h, again) == SLLINK_DONE);                                                \
-            CHECK(memcmp(again, octets, size) == 0);                                               \
-            sllink_##name kept = h;                                                                \
-            FIELDS(IS_REFUSED, NOTHING)                                                            \
-            CHECK(memcmp(again, octets, size) == 0);                                               \
-            free(octets);                                                                          \
-            free(again);                                                                           \
-        }                                                                                          \
-    }
-
-#define TM_HEADER(NARROW, WHOLE)                                                                   \
-    NARROW(version, 2) NARROW(spacecraft, 10) NARROW(vc, 3) WHOLE(control, 1) WHOLE(mc, 8)         \
-    WHOLE(vcc, 8) WHOLE(secondary, 1) WHOLE(sync, 1) WHOLE(order, 1) NARROW(segment, 2)            \
-    NARROW(first, 11)
-#define TC_HEADER(NARROW, WHOLE)                                                                   \
-    NARROW(version, 2) WHOLE(bypass, 1) WHOLE(command, 1) NARROW(spare, 2) NARROW(spacecraft, 10)  \
-    NARROW(vc, 6) NARROW(length, 10) WHOLE(ns, 8)
-#define SEGMENT_HEADER(NARROW, WHOLE) NARROW(flags, 2) NARROW(map, 6)
-#define PACKET_HEADER(NARROW, WHOLE)                                                               \
-    NARROW(version, 3) NARROW(kind, 1) WHOLE(secondary, 1) NARROW(apid, 11) NARROW(flags, 2)       \
-    NARROW(count, 14) WHOLE(length, 16)
-#define CLCW(NARROW, WHOLE)                                                                        \
-    NARROW(word, 1) NARROW(version, 2) NARROW(status, 3) NARROW(cop, 2) NARROW(vc, 6)              \
-    NARROW(spare, 2) WHOLE(no_rf, 1) WHOLE(no_lock, 1) WHOLE(lockout, 1) WHOLE(wait, 1)            \
-    WHOLE(retransmit, 1) NARROW(farm_b, 2) WHOLE(spare_end, 1) WHOLE(report, 8)
-
-#define HEADERS(EACH)                                                                              \
-    EACH(tm_header, 6, TM_HEADER)                                                                  \
-    EACH(tc_header, 5, TC_HEADER)                                                                  \
-    EACH(segment_header, 1, SEGMENT_HEADER)                                                        \
-    EACH(packet_header, 6, PACKET_HEADER)                                                          \
-    EACH(clcw, 4, CLCW)
-HEADERS(HEADER)
-
-/* ---- FARM-1 ---- */
-
-/* FARM-1's table, written apart from the library. */
-static sllink_verdict stepped(sllink_farm *f, sllink_event event, uint8_t number) {
-    if (event == SLLINK_AD) {
-        unsigned ahead = (uint8_t)(number - f->vr), half = f->window / 2u;
-        if (f->lockout)
-            return SLLINK_REFUSED;
-        if (ahead == 0) {
-            f->vr++;
-            f->retransmit = false;
-            return SLLINK_ACCEPT;
-        }
-        if (ahead < half) {
-            f->retransmit = true;
-            return SLLINK_EARLY;
-        }
-        if (ahead >= 256 - half)
-            return SLLINK_LATE;
-        f->lockout = true;
-        return SLLINK_OUTSIDE;
-    }
-    f->farm_b = (f->farm_b + 1) % 4;
-    if (event == SLLINK_BD)
-        return SLLINK_ACCEPT;
-    if (event == SLLINK_UNLOCK) {
-        f->retransmit = false;
-        f->lockout = false;
-    } else if (!f->lockout) {
-        f->retransmit = false;
-        f->vr = number;
-    }
-    return SLLINK_COMMAND;
-}
-
-static bool same_farm(const sllink_farm *a, const sllink_farm *b) {
-    return a->window == b->window && a->vr == b->vr && a->lockout == b->lockout
-           && a->retransmit == b->retransmit && a->farm_b == b->farm_b;
-}
-
-static void farm(void) {
-    static const uint8_t windows[] = {2, 4, 10, 128, 254};
-    for (unsigned i = 0; i < 256; i++) {
-        sllink_farm made = {7, 8, true, true, 3}, before = made;
-        sllink_answer answer = sllink_farm_new(&made, (uint8_t)i, 200);
-        sllink_farm wanted = {(uint8_t)i, 200, false, false, 0};
-        CHECK(answer == (i == 0 || i % 2 == 1 ? SLLINK_WINDOW : SLLINK_DONE));
-        CHECK(same_farm(&made, answer == SLLINK_DONE ? &wanted : &before));
-    }
-    for (size_t i = 0; i < sizeof windows; i++) {
-        sllink_farm f, own;
-        CHECK(sllink_farm_new(&f, windows[i], (uint8_t)chance(256)) == SLLINK_DONE);
-        own = f;
-        for (int round = 0; round < 20000; round++) {
-            sllink_event event = (sllink_event)(chance(12) < 9 ? 0 : 1 + chance(3));
-            uint8_t number = (uint8_t)(chance(3) ? own.vr + chance(9) - 4u : chance(256));
-            sllink_verdict verdict = SLLINK_REFUSED;
-            CHECK(sllink_farm_step(&f, event, number, &verdict) == SLLINK_DONE);
-            CHECK(verdict == stepped(&own, event, number));
-            CHECK(same_farm(&f, &own));
-            CHECK(sllink_farm_vr(&f) == own.vr);
-            uint8_t vc = (uint8_t)chance(64), octets[4];
-            sllink_clcw word;
-            memset(&word, 0, sizeof word);
-            CHECK(sllink_farm_clcw(&f, vc, octets) == SLLINK_DONE);
-            sllink_clcw_read(octets, &word);
-            CHECK(word.cop == 1 && word.vc == vc && word.lockout == own.lockout
-                  && word.retransmit == own.retransmit && word.farm_b == own.farm_b
-                  && word.report == own.vr);
-            CHECK(octets[0] == 1 && octets[1] == vc << 2 && (octets[2] & 0xD1) == 0);
-        }
-    }
-    static const struct {
-        sllink_farm farm;
-        int event;
-        uint8_t vc;
-        sllink_answer step, clcw;
-    } none[] = {{{0, 1, false, false, 0}, SLLINK_BD, 64, SLLINK_WINDOW, SLLINK_WINDOW},
-                {{9, 1, true, false, 0}, SLLINK_BD, 64, SLLINK_WINDOW, SLLINK_WINDOW},
-                {{10, 1, false, true, 4}, SLLINK_BD, 64, SLLINK_COUNTER, SLLINK_COUNTER},
-                {{254, 1, true, true, 255}, SLLINK_BD, 64, SLLINK_COUNTER, SLLINK_COUNTER},
-                {{255, 0, false, false, 255}, SLLINK_BD, 64, SLLINK_WINDOW, SLLINK_WINDOW},
-                {{10, 5, false, false, 0}, 4, 64, SLLINK_EVENT, SLLINK_VIRTUAL_CHANNEL},
-                {{10, 5, false, false, 0}, 4, 255, SLLINK_EVENT, SLLINK_VIRTUAL_CHANNEL}};
-    for (size_t i = 0; i < sizeof none / sizeof *none; i++) {
-        sllink_farm f = none[i].farm;
-        sllink_verdict verdict = SLLINK_LATE;
-        uint8_t octets[4] = {1, 2, 3, 4};
-        CHECK(sllink_farm_step(&f, (sllink_event)none[i].event, 0, &verdict) == none[i].step);
-        CHECK(sllink_farm_clcw(&f, none[i].vc, octets) == none[i].clcw);
-        CHECK(same_farm(&f, &none[i].farm) && verdict == SLLINK_LATE
-              && memcmp(octets, "\1\2\3\4", 4) == 0);
-    }
 }
 
 /* ---- recordings ---- */
@@ -356,18 +141,6 @@ static sllink_managed managed_of(int spacecraft, int tm, int tc, int window, uin
                             .limit = limit};
 }
 
-static sllink_managed usual(void) {
-    return managed_of(1, 32, 1024, 10, 1073741824);
-}
-
-/* A TM frame with a packet of 26 octets. */
-static void frame(uint8_t *octets, uint8_t count) {
-    static const uint8_t front[12] = {0, 0x10, 0, 0, 0x18, 0, 0, 1, 0xC0, 0, 0, 19};
-    memcpy(octets, front, 12);
-    memset(octets + 12, 'a' + count % 26, 20);
-    octets[2] = octets[3] = count;
-}
-
 static void recordings(void) {
     /* what is refused, in its order, and the edges of what isn't, for nine octets */
     static const struct {
@@ -386,23 +159,10 @@ static void recordings(void) {
     };
     for (int i = 0; i < ENGINES; i++) {
         engine *call = engines[i].call;
-        size_t least = strcmp(engines[i].kind, "tm") == 0 ? 32 : SIZE_MAX;
-        sllink_managed managed = usual();
-        for (size_t length = 0; length < 200; length += length < 70 ? 1 : 29) {
-            octets of = {block_of(NULL, length), length}, text;
-            for (size_t j = 0; j + 32 <= length; j += 32)
-                frame(of.at + j, (uint8_t)(j / 32));
-            memset(of.at + length / 32 * 32, 0, length % 32);
-            text = text_of(call, &managed, of);
-            CHECK(text.at != NULL && (length < least || text.length > 0));
-            CHECK(length > 0 || text.length == (strcmp(engines[i].verb, "check") == 0 ? 48u : 0u));
-            free(text.at);
-            free(of.at);
-        }
         for (size_t j = 0; j < sizeof tried / sizeof *tried; j++) {
             octets zeros = {block_of("\0\0\0\0\0\0\0\0", 9), 9}, text;
-            managed = managed_of(tried[j].spacecraft, tried[j].tm, tried[j].tc, tried[j].window,
-                                 tried[j].limit);
+            sllink_managed managed = managed_of(tried[j].spacecraft, tried[j].tm, tried[j].tc,
+                                                tried[j].window, tried[j].limit);
             answered it = called(call, &managed, zeros, 100);
             CHECK(it.answer == tried[j].answer);
             free(it.text);
@@ -417,14 +177,7 @@ static void recordings(void) {
 typedef sllink_answer comparison(const sllink_managed *, const uint8_t *, size_t, const uint8_t *,
                                  size_t, bool *);
 
-/* Whether two recordings are compared with this answer, where `same` is `was` before and `is`
- * then. */
-static bool compares(comparison *call, sllink_managed managed, octets a, octets b, bool was,
-                     sllink_answer answer, bool is) {
-    bool same = was;
-    return call(&managed, a.at, a.length, b.at, b.length, &same) == answer && same == is;
-}
-
+/* A refusal leaves `same` as it was, whatever that is. */
 static void same_packets(void) {
     static const struct {
         int spacecraft;
@@ -432,35 +185,15 @@ static void same_packets(void) {
         sllink_answer answer;
     } refused[] = {{1, 95, SLLINK_TOO_LONG}, {1, 0, SLLINK_LIMIT}, {1024, 0, SLLINK_SPACECRAFT}};
     comparison *calls[] = {sllink_same_packets_tm, sllink_same_packets_tc};
-    uint8_t frames[96], others[64];
-    octets three = {frames, 96}, two = {frames, 64}, one = {frames, 1}, none = {frames, 0};
-    octets other = {others, 64}, form;
-    sllink_managed managed = usual();
-    for (int i = 0; i < 3; i++)
-        frame(frames + 32 * i, (uint8_t)i);
-    frame(others, 0);
-    frame(others + 32, 9);
-    for (int i = 0; i < 2; i++) {
-        CHECK(compares(calls[i], managed, three, three, false, SLLINK_DONE, true));
-        CHECK(compares(calls[i], managed, none, one, false, SLLINK_DONE, true));
-        /* a refusal leaves it as it was, whatever that is */
-        for (int j = 0; j < 6; j++) {
-            bool was = j % 2;
-            managed = managed_of(refused[j / 2].spacecraft, 32, 1024, 10, refused[j / 2].limit);
-            CHECK(compares(calls[i], managed, three, other, was, refused[j / 2].answer, was));
-            CHECK(compares(calls[i], managed, other, three, was, refused[j / 2].answer, was));
-        }
-        managed = usual();
+    static const uint8_t one[96], other[64];
+    for (int i = 0; i < 12; i++) {
+        bool was = i % 2, same = was;
+        sllink_managed managed = managed_of(refused[i / 4].spacecraft, 32, 1024, 10,
+                                            refused[i / 4].limit);
+        sllink_answer answer = refused[i / 4].answer;
+        CHECK(calls[i / 2 % 2](&managed, one, 96, other, 64, &same) == answer && same == was);
+        CHECK(calls[i / 2 % 2](&managed, other, 64, one, 96, &same) == answer && same == was);
     }
-    CHECK(compares(sllink_same_packets_tm, managed, three, two, true, SLLINK_DONE, false));
-    CHECK(compares(sllink_same_packets_tm, managed, two, other, true, SLLINK_DONE, false));
-    /* the normal form of two packets has other counts than these frames */
-    frames[2] = 77;
-    frames[34] = 99;
-    form = text_of(sllink_normalise_tm, &managed, two);
-    CHECK(form.at != NULL && form.length == 64 && memcmp(form.at, frames, 64) != 0);
-    CHECK(compares(sllink_same_packets_tm, managed, two, form, false, SLLINK_DONE, true));
-    free(form.at);
 }
 
 /* ---- jobs ---- */
@@ -622,6 +355,35 @@ static void threads(void) {
     free(all);
 }
 
+/* ---- other calls ---- */
+
+/* Blocks of so many octets, and room for texts. */
+static uint8_t *exact[8], lent[1 << 16];
+
+#define READ_AND_WRITTEN(name, size)                                                               \
+    static sllink_##name a_##name;                                                                 \
+    sllink_##name##_read(exact[size], &a_##name);                                                  \
+    done |= sllink_##name##_write(&a_##name, exact[size]);
+
+/* Each call that takes no recording; tests/library looks at what they answer. */
+static void *other_calls(void *with) {
+    static sllink_farm f;
+    static sllink_verdict verdict;
+    unsigned done = sllink_farm_new(&f, 10, 0);
+    done |= sllink_farm_clcw(&f, 63, exact[4]);
+    for (unsigned event = 0; event < 4; event++)
+        done |= sllink_farm_step(&f, (sllink_event)event, 9, &verdict);
+    READ_AND_WRITTEN(tm_header, 6)
+    READ_AND_WRITTEN(tc_header, 5)
+    READ_AND_WRITTEN(segment_header, 1)
+    READ_AND_WRITTEN(packet_header, 6)
+    READ_AND_WRITTEN(clcw, 4)
+    (void)(sllink_fecf(lent, sizeof lent) + sllink_farm_vr(&f));
+    for (size_t length = 0; length < 8; length++)
+        (void)(sllink_fecf(exact[length], length) + sllink_fecf_good(exact[length], length));
+    return done == SLLINK_DONE ? with : NULL;
+}
+
 /* ---- stack ---- */
 
 enum { RECORDINGS_STACK = 256 << 10, OTHER_STACK = 8 << 10 };
@@ -659,8 +421,6 @@ static size_t touched(void *(*does)(void *), void *with) {
     return STACK - left;
 }
 
-static uint8_t lent[1 << 16];
-
 static void *nothing(void *with) {
     return with;
 }
@@ -669,23 +429,6 @@ static void *the_job(void *with) {
     size_t size;
     bool same;
     return answer_of(with, lent, sizeof lent, &size, &same) == SLLINK_DONE ? with : NULL;
-}
-
-#define READ_AND_WRITTEN(name, size, FIELDS)                                                       \
-    static sllink_##name a_##name;                                                                 \
-    sllink_##name##_read(lent, &a_##name);                                                         \
-    done |= sllink_##name##_write(&a_##name, lent);
-
-static void *other_calls(void *with) {
-    static sllink_farm f;
-    static sllink_verdict verdict;
-    unsigned done = sllink_farm_new(&f, 10, 0);
-    done |= sllink_farm_clcw(&f, 63, lent);
-    for (unsigned event = 0; event < 4; event++)
-        done |= sllink_farm_step(&f, (sllink_event)event, 9, &verdict);
-    HEADERS(READ_AND_WRITTEN)
-    (void)(sllink_fecf(lent, sizeof lent) + sllink_fecf_good(lent, 77) + sllink_farm_vr(&f));
-    return done == SLLINK_DONE ? with : NULL;
 }
 
 /* A call takes no more stack than the header says. */
@@ -700,11 +443,8 @@ static void stack(void) {
     printf("%zu octets of stack, other calls %zu\n", most, other);
 }
 
-#define CALL(name, size, FIELDS) name();
 static void calls(void) {
-    error_control();
-    HEADERS(CALL)
-    farm();
+    CHECK(other_calls(exact) == exact);
     recordings();
     same_packets();
 }
@@ -715,9 +455,13 @@ int main(int argc, char **argv) {
         void (*runs)(void);
     } modes[] = {{"calls", calls}, {"jobs", jobs}, {"memory", memory}, {"threads", threads},
                  {"stack", stack}};
+    for (size_t length = 0; length < 8; length++)
+        exact[length] = block_of(lent, length);
     for (size_t i = 0; argc == 2 && i < sizeof modes / sizeof *modes; i++)
         if (strcmp(argv[1], modes[i].name) == 0) {
             modes[i].runs();
+            for (size_t length = 0; length < 8; length++)
+                free(exact[length]);
             return failures > 0;
         }
     fprintf(stderr, "library: calls, jobs, memory, threads, or stack\n");

@@ -75,7 +75,7 @@ class Picture:
 
     def __init__(self, survey: Survey, ident: str = "rest", heading: bool = True) -> None:
         self.survey, self.ident, self.heading = survey, ident, heading
-        ends = not heading or survey.gaps or any(what == "open" for _, what in survey.marks)
+        ends = not heading or any(what in ("gap", "open") for _, what in survey.marks)
         self.right = WIDTH - (ENDS if ends else MARGIN)   # where the cells end
         self.used: Set[str] = set()
         self.coarse = 1                                   # stretches in which marks are joined
@@ -144,14 +144,14 @@ class Picture:
 
     def _end(self, row: int, y: int) -> List[str]:
         """What stands at the end of a row: the sum of the lost frames, and what is incomplete."""
-        gaps, opened = self.survey.gaps.get(row), self.survey.marks.get((row, "open"))
+        lost, opened = self.survey.lost().get(row), self.survey.marks.get((row, "open"))
         middle = y + CELL / 2
         parts = []
-        if gaps:
-            parts.append(text(self.right + 8, middle + (-2 if opened else 4), f"{gaps.lost:,} lost", size=11,
+        if lost is not None:
+            parts.append(text(self.right + 8, middle + (-2 if opened else 4), f"{lost:,} lost", size=11,
                               weight="bold", kind="lost"))
         if opened:
-            y_open = middle + (8 if gaps else 0)
+            y_open = middle + (0 if lost is None else 8)
             mark = next(iter(opened.values()))
             words = f"{mark.lines[0].split()[-1]} octets" if mark.number == 1 else f"{mark.number} times"
             parts += sign("open", Sign(self.right + 12, words, "\n".join(mark.lines)), y_open)

@@ -10,7 +10,7 @@ from ._compare.store import Packets, room
 from ._page import Table, facts, figure, folded, heading, listing, page, paragraph, verdict
 from ._picture import Picture
 from ._questions import questions
-from ._survey import MOST_LINES, MOST_LOCKOUTS, NOT_READ, Gaps, Reports, Survey
+from ._survey import MOST_LINES, MOST_LOCKOUTS, NOT_READ, Reports, Survey
 from ._tally import MOST_APIDS, MOST_RUNS, Lacks, Tally
 from ._verdict import listed, lost_frames, missing_counts, number_of, said, said_of_two
 from .tool import State, about, shown
@@ -136,19 +136,17 @@ def kinds_of(survey: Survey) -> List[Tuple[int, Counter[str]]]:
 
 
 def channels_tm(survey: Survey) -> List[str]:
-    rows = []
-    for vc, kinds in kinds_of(survey):
-        gaps = survey.gaps.get(vc, Gaps())
-        rows.append([vc, sum(kinds.values()), gaps.lost, gaps.number, marked(survey, vc, "dropped"),
-                     kinds["first"] + kinds["none"], kinds["idle"], kinds["opaque"], marked(survey, vc, "open")])
+    lost = survey.lost()
+    rows = [[vc, sum(kinds.values()), lost.get(vc, 0), marked(survey, vc, "gap"), marked(survey, vc, "dropped"),
+             kinds["first"] + kinds["none"], kinds["idle"], kinds["opaque"], marked(survey, vc, "open")]
+            for vc, kinds in kinds_of(survey)]
     parts = [Table("Channels", ["Virtual channel", "Frames", "!Counts missing", "Gaps", "!Packets dropped",
                                 "With packets", "Only idle data", "Opaque", "Incomplete at the end"],
                    rows).summed().html()]
-    if survey.gaps:
+    if lost:
         parts.append(paragraph(MISSING + damaged_said(survey), "note"))
-    again = sum(gaps.of_255 for gaps in survey.gaps.values())
-    if again:
-        words = "1 gap is" if again == 1 else f"{again:,} gaps are"
+    if survey.of_255:
+        words = "1 gap is" if survey.of_255 == 1 else f"{survey.of_255:,} gaps are"
         parts.append(paragraph(f"{words} of 255 frames: either these were lost, or the frame before came once more.",
                                "note"))
     return parts
@@ -181,8 +179,8 @@ def farms(survey: Survey) -> str:
     words = [(vc, digits, int(digits, 16)) for vc, digits in sorted(survey.farms.items())]
     return Table("FARM-1", ["Virtual channel", "#V(R)", "!Lockout flag", "!Retransmit flag", "#FARM-B counter", "CLCW",
                             "!Lockouts"],
-                 [[vc, word & 255, word >> 13 & 1, word >> 11 & 1, word >> 9 & 3, digits, survey.lockouts_of[vc]]
-                  for vc, digits, word in words]).html()
+                 [[vc, word & 255, word >> 13 & 1, word >> 11 & 1, word >> 9 & 3, digits,
+                   survey.of_row(vc).get("outside", 0)] for vc, digits, word in words]).html()
 
 
 def lockouts(survey: Survey) -> List[str]:
@@ -191,7 +189,7 @@ def lockouts(survey: Survey) -> List[str]:
     table = Table("Lockouts", ["Virtual channel", "#Begins at offset", "by N(S)", "#Ends at offset", "Frames refused"],
                   [[it.vc, it.start, it.number, "not ended" if it.end is None else it.end, it.refused]
                    for it in survey.lockouts])
-    return [folded(first_of(MOST_LOCKOUTS, sum(survey.lockouts_of.values()), "lockout"), table.html())]
+    return [folded(first_of(MOST_LOCKOUTS, survey.anomalies["outside"], "lockout"), table.html())]
 
 
 def first_of(most: int, number: int, what: str) -> str:

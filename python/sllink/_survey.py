@@ -105,21 +105,6 @@ class Mark:
         self.lines: List[str] = []
 
 
-class Gaps:
-    """The gaps of a channel: how many, the frames lost in them modulo 256, and how many gaps are of 255 frames."""
-
-    __slots__ = ("number", "lost", "of_255")
-
-    def __init__(self) -> None:
-        self.number = self.lost = self.of_255 = 0
-
-    def add(self, lost: int, times: int) -> None:
-        """Gaps of one size."""
-        self.number += times
-        self.lost += lost * times
-        self.of_255 += (lost == 255) * times
-
-
 class Lockout:
     """A lockout of FARM-1: where it begins and ends, and the frames of type AD that are refused in it."""
 
@@ -165,14 +150,13 @@ class Survey:
         self.reasons: Counter[str] = collections.Counter()          # skipped frames by the reason
         self.first_lines: List[str] = []
         self.marks: Dict[Tuple[int, str], Dict[int, Mark]] = defaultdict(dict)
-        self.gaps: Dict[int, Gaps] = defaultdict(Gaps)
+        self.of_255 = 0                                   # gaps of 255 frames
         self.rest: Optional[Tuple[int, int]] = None       # offset and octets of the remainder
         self.cells: List[Cell] = []                       # of a short recording, in which each frame has one
         self.bins: Dict[Tuple[int, str], List[int]] = defaultdict(lambda: [0] * BINS)   # frames by row and class
         self.bars: Dict[Tuple[int, str], List[List[int]]] = defaultdict(list)   # where a flag of FARM-1 is set
         self.farms: Dict[int, str] = {}                   # the last CLCW of FARM-1 by channel
         self.lockouts: List[Lockout] = []
-        self.lockouts_of: Counter[int] = collections.Counter()
         self.reports: Dict[Tuple[int, int], Reports] = {}
         self._locked: Dict[int, Lockout] = {}             # those that are kept and haven't ended, by channel
         self._flags: Dict[int, int] = {}                  # those of FARM-1 that are set, by channel
@@ -194,6 +178,11 @@ class Survey:
     def of_row(self, row: int) -> Dict[str, int]:
         """The frames of a row by their classes."""
         return {what: sum(numbers) for (of, what), numbers in self.bins.items() if of == row}
+
+    def lost(self) -> Dict[int, int]:
+        """The frames lost in the gaps of each channel that has some, modulo 256 at each gap."""
+        return {row: sum(mark.lost for mark in marks.values()) for (row, what), marks in self.marks.items()
+                if what == "gap"}
 
     def place(self, offset: int, stretches: int) -> int:
         """The stretch in which an offset lies, where the picture is divided into this number."""
@@ -244,7 +233,7 @@ class Survey:
         for (channel, expected, count), times in collections.Counter(gaps).items():
             row, lost = int(channel[3:]), (int(count) - int(expected)) % 256
             self.marks[row, "gap"][spot].lost += lost * times
-            self.gaps[row].add(lost, times)
+            self.of_255 += (lost == 255) * times
 
     def _show(self) -> None:
         add = self._add_tm if self.kind == "tm" else self._add_tc
@@ -287,7 +276,6 @@ class Survey:
             numbers[stretch] += times
             seen[it.row] = seen.get(it.row, 0) | it.flags
             if it.what == "outside":
-                self.lockouts_of[it.row] += times
                 changes = changes or len(self.lockouts) < MOST_LOCKOUTS
             elif it.row in self._locked:
                 changes = changes or not it.flags & FLAGS["Lockout flag"]

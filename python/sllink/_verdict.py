@@ -52,7 +52,7 @@ def losses_said(survey: Survey) -> str:
     missing, damaged = missing_counts(survey), survey.reasons["fecf"]
     if not missing:
         return "no gap in the frame counts"
-    lost, on = number_of(lost_frames(survey), "frame"), channels(sorted(survey.gaps))
+    lost, on = number_of(lost_frames(survey), "frame"), channels(sorted(survey.lost()))
     if not damaged:
         return f"{lost} lost on {on}"
     return (f"{lost} lost ({number_of(missing, 'count')} missing on {on}, less {number_of(damaged, 'skipped frame')}, "
@@ -60,7 +60,7 @@ def losses_said(survey: Survey) -> str:
 
 
 def missing_counts(survey: Survey) -> int:
-    return sum(gaps.lost for gaps in survey.gaps.values())
+    return sum(survey.lost().values())
 
 
 def lost_frames(survey: Survey) -> int:

@@ -5,7 +5,6 @@
  *     library calls              each call, and refusals of those over recordings
  *     library jobs < JOBS        the text of each job, with no room, one octet too few, and enough
  *     library memory < JOBS      the same, with each allocation refused in turn
- *     library threads < JOBS     all jobs in each of four threads at once
  *     library stack < JOBS       how much stack a call takes
  *
  * A job is a line: VERB KIND MANAGED RECORDING OUTPUT, where MANAGED are the octets of an
@@ -303,58 +302,6 @@ static void memory(void) {
     printf("%ld refusals\n", refusals);
 }
 
-/* ---- threads ---- */
-
-enum { THREADS = 4, ROUNDS = 20, STACK = 1 << 20 };
-
-static job *all;
-static size_t count;
-static int threads_failed[THREADS];
-
-static void *in_a_thread(void *number) {
-    int *failed = number;
-    sllink_farm f;
-    sllink_verdict verdict;
-    *failed += sllink_farm_new(&f, 10, 0) != SLLINK_DONE;
-    for (int round = 0; round < ROUNDS; round++)
-        for (size_t i = 0; i < count; i++) {
-            const job *it = &all[i];
-            uint8_t *text = block_of(NULL, 1 << 16);
-            uint8_t number = (uint8_t)(round * (int)count + (int)i);
-            size_t size = 0;
-            bool same;
-            *failed += answer_of(it, text, 1 << 16, &size, &same) != SLLINK_DONE;
-            *failed += it->call != NULL
-                       && (size != it->other.length || memcmp(text, it->other.at, size) != 0);
-            *failed += sllink_farm_step(&f, SLLINK_AD, number, &verdict) != SLLINK_DONE;
-            free(text);
-        }
-    return NULL;
-}
-
-static void threads(void) {
-    pthread_t them[THREADS];
-    pthread_attr_t small;
-    all = calloc(10000, sizeof *all);
-    if (all == NULL)
-        exit(2);
-    while (count < 10000 && next_job(&all[count])) {
-        job *it = &all[count++];
-        if (it->call != NULL)
-            it->other = text_of(it->call, &it->managed, it->recording);
-        CHECK(it->call == NULL || it->other.length <= 1 << 16);
-    }
-    CHECK(pthread_attr_init(&small) == 0 && pthread_attr_setstacksize(&small, STACK) == 0);
-    for (int i = 0; i < THREADS; i++)
-        CHECK(pthread_create(&them[i], &small, in_a_thread, &threads_failed[i]) == 0);
-    for (int i = 0; i < THREADS; i++)
-        CHECK(pthread_join(them[i], NULL) == 0 && threads_failed[i] == 0);
-    pthread_attr_destroy(&small);
-    for (size_t i = 0; i < count; i++)
-        end_job(&all[i]);
-    free(all);
-}
-
 /* ---- other calls ---- */
 
 /* Blocks of so many octets, and room for texts. */
@@ -386,7 +333,7 @@ static void *other_calls(void *with) {
 
 /* ---- stack ---- */
 
-enum { RECORDINGS_STACK = 256 << 10, OTHER_STACK = 8 << 10 };
+enum { STACK = 1 << 20, RECORDINGS_STACK = 256 << 10, OTHER_STACK = 8 << 10 };
 
 typedef struct task {
     void *(*does)(void *);
@@ -453,8 +400,7 @@ int main(int argc, char **argv) {
     static const struct {
         const char *name;
         void (*runs)(void);
-    } modes[] = {{"calls", calls}, {"jobs", jobs}, {"memory", memory}, {"threads", threads},
-                 {"stack", stack}};
+    } modes[] = {{"calls", calls}, {"jobs", jobs}, {"memory", memory}, {"stack", stack}};
     for (size_t length = 0; length < 8; length++)
         exact[length] = block_of(lent, length);
     for (size_t i = 0; argc == 2 && i < sizeof modes / sizeof *modes; i++)
@@ -464,6 +410,6 @@ int main(int argc, char **argv) {
                 free(exact[length]);
             return failures > 0;
         }
-    fprintf(stderr, "library: calls, jobs, memory, threads, or stack\n");
+    fprintf(stderr, "library: calls, jobs, memory, or stack\n");
     return 2;
 }

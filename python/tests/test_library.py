@@ -12,7 +12,7 @@ import unittest
 from concurrent.futures import ThreadPoolExecutor
 
 import test_sllink
-from test_sllink import EXAMPLES, FIRST, PASS, READERS, RECORDINGS, STATION, sllink, whole, written
+from test_sllink import EXAMPLES, FIRST, PASS, READERS, RECORDINGS, STATION, compared, sllink, whole, written
 
 try:
     LIBRARY = sllink.Library()
@@ -83,11 +83,13 @@ class ByTheLibrary(test_sllink.InAFolder):
                 self.assertEqual(found, list(sllink.lines("check", kind, io.BytesIO(octets), STATION)))
 
     def test_threads(self):
-        """Several threads, each with recordings of its own."""
-        wanted = [written("show", *it).decode().splitlines() for it in RECORDINGS]
+        """Several threads, each with recordings of its own: all calls over recordings."""
+        def texts(text):
+            return [text(verb, *it) for it in RECORDINGS for verb in ("show", "check", "packets", "normalise")] + [
+                compared(*it, program=LIBRARY) for it in RECORDINGS]
+        wanted = texts(written)
         with ThreadPoolExecutor(4) as pool:
-            them = [pool.submit(lambda: [list(sllink.lines("show", *it, program=LIBRARY)) for it in RECORDINGS])
-                    for _ in range(80)]
+            them = [pool.submit(texts, LIBRARY.text) for _ in range(80)]
         for found in them:
             self.assertEqual(found.result(), wanted)
 

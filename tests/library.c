@@ -2,8 +2,9 @@
  * What tests/library runs in C: every call of sllink.h, and recordings that it compares with the
  * program's output.
  *
- *     library calls              each call, and refusals of those over recordings
- *     library jobs < JOBS        the text of each job, with no room, one octet too few, and enough
+ *     library calls              each call that takes no recording
+ *     library jobs < JOBS        what each job answers; its text, with no room, one octet too few,
+ *                                and enough
  *     library memory < JOBS      the same, with each allocation refused in turn
  *     library stack < JOBS       how much stack a call takes
  *
@@ -132,68 +133,8 @@ static octets text_of(engine *call, const sllink_managed *managed, octets of) {
     return (octets){whole.text, none.size};
 }
 
-static sllink_managed managed_of(int spacecraft, int tm, int tc, int window, uint64_t limit) {
-    return (sllink_managed){.spacecraft = (uint16_t)spacecraft,
-                            .tm_length = (uint16_t)tm,
-                            .tc_length = (uint16_t)tc,
-                            .window = (uint8_t)window,
-                            .limit = limit};
-}
-
-static void recordings(void) {
-    /* what is refused, in its order, and the edges of what isn't, for nine octets */
-    static const struct {
-        int spacecraft, tm, tc, window;
-        uint64_t limit;
-        sllink_answer answer;
-    } tried[] = {
-        {1024, 31, 15, 0, 0, SLLINK_SPACECRAFT}, {65535, 32, 16, 2, 9, SLLINK_SPACECRAFT},
-        {1023, 31, 15, 0, 0, SLLINK_TM_LENGTH},  {0, 2049, 16, 2, 9, SLLINK_TM_LENGTH},
-        {0, 0, 16, 2, 9, SLLINK_TM_LENGTH},      {0, 65535, 16, 2, 9, SLLINK_TM_LENGTH},
-        {0, 32, 15, 0, 0, SLLINK_TC_LENGTH},     {0, 32, 1025, 2, 9, SLLINK_TC_LENGTH},
-        {0, 32, 16, 0, 0, SLLINK_WINDOW},        {0, 32, 16, 255, 9, SLLINK_WINDOW},
-        {0, 2048, 1024, 254, 0, SLLINK_LIMIT},   {0, 32, 16, 2, 8, SLLINK_TOO_LONG},
-        {0, 32, 16, 2, 1, SLLINK_TOO_LONG},      {0, 32, 16, 2, 9, SLLINK_DONE},
-        {1023, 2048, 1024, 254, UINT64_MAX, SLLINK_DONE},
-    };
-    for (int i = 0; i < ENGINES; i++) {
-        engine *call = engines[i].call;
-        for (size_t j = 0; j < sizeof tried / sizeof *tried; j++) {
-            octets zeros = {block_of("\0\0\0\0\0\0\0\0", 9), 9}, text;
-            sllink_managed managed = managed_of(tried[j].spacecraft, tried[j].tm, tried[j].tc,
-                                                tried[j].window, tried[j].limit);
-            answered it = called(call, &managed, zeros, 100);
-            CHECK(it.answer == tried[j].answer);
-            free(it.text);
-            text = text_of(call, &managed, zeros);
-            CHECK((text.at != NULL) == (tried[j].answer == SLLINK_DONE));
-            free(text.at);
-            free(zeros.at);
-        }
-    }
-}
-
 typedef sllink_answer comparison(const sllink_managed *, const uint8_t *, size_t, const uint8_t *,
                                  size_t, bool *);
-
-/* A refusal leaves `same` as it was, whatever that is. */
-static void same_packets(void) {
-    static const struct {
-        int spacecraft;
-        uint64_t limit;
-        sllink_answer answer;
-    } refused[] = {{1, 95, SLLINK_TOO_LONG}, {1, 0, SLLINK_LIMIT}, {1024, 0, SLLINK_SPACECRAFT}};
-    comparison *calls[] = {sllink_same_packets_tm, sllink_same_packets_tc};
-    static const uint8_t one[96], other[64];
-    for (int i = 0; i < 12; i++) {
-        bool was = i % 2, same = was;
-        sllink_managed managed = managed_of(refused[i / 4].spacecraft, 32, 1024, 10,
-                                            refused[i / 4].limit);
-        sllink_answer answer = refused[i / 4].answer;
-        CHECK(calls[i / 2 % 2](&managed, one, 96, other, 64, &same) == answer && same == was);
-        CHECK(calls[i / 2 % 2](&managed, other, 64, one, 96, &same) == answer && same == was);
-    }
-}
 
 /* ---- jobs ---- */
 
@@ -258,12 +199,20 @@ static sllink_answer answer_of(const job *it, uint8_t *text, size_t room, size_t
 
 static void jobs(void) {
     for (job it; next_job(&it); end_job(&it)) {
-        bool same = false;
         if (it.compare != NULL) {
+            /* a refusal leaves it as it was, whatever that is */
+            bool same = true, other = false;
             sllink_answer answer = answer_of(&it, NULL, 0, NULL, &same);
+            CHECK(answer_of(&it, NULL, 0, NULL, &other) == answer);
+            CHECK(answer == SLLINK_DONE ? same == other : same && !other);
             printf("%s %s %d %s\n", it.path, it.output, (int)answer, same ? "same" : "other");
             continue;
         }
+        answered some = called(it.call, &it.managed, it.recording, 100);
+        free(some.text);
+        printf("%s %s %d\n", it.path, it.output, (int)some.answer);
+        if (some.answer != SLLINK_DONE && some.answer != SLLINK_ROOM)
+            continue;
         octets text = text_of(it.call, &it.managed, it.recording);
         FILE *file = fopen(it.output, "wb");
         if (file == NULL || text.at == NULL || fwrite(text.at, 1, text.length, file) != text.length
@@ -392,8 +341,6 @@ static void stack(void) {
 
 static void calls(void) {
     CHECK(other_calls(exact) == exact);
-    recordings();
-    same_packets();
 }
 
 int main(int argc, char **argv) {

@@ -202,7 +202,7 @@ def _status(name: str, main: Callable[[List[str]], int], text: str) -> int:
         if isinstance(error, MemoryError) or error.errno == errno.ENOMEM:
             said = "there is not enough memory"
         else:
-            said = f"{shown(error.filename) if error.filename else 'output'}: {reason_of(error)}"
+            said = f"{'output' if error.filename is None else shown(error.filename)}: {reason_of(error)}"
     except (Refused, SllinkError) as reason:
         said = str(reason)
     except Exception as error:                               # pylint: disable=broad-except

@@ -35,6 +35,9 @@ class RecordingFile:
         if not stat.S_ISREG(about.st_mode):
             self.close()
             raise OSError(errno.ESPIPE, "is no file that can be read at any place", name)
+        if not about.st_size and self._file.read(1) != b"":
+            self.close()
+            raise OSError(errno.ESPIPE, "is no file with a size, but one of the system", name)
         self.size, self.read_of, self.looks = about.st_size, 0, 0
 
     def look(self, place: int, looks: int = 1) -> None:
@@ -122,6 +125,14 @@ def quoted(name: str) -> str:
     text = "".join(chr(octet) if 32 <= octet < 127 and octet not in b"'\\%!" else f"\\{octet:03o}"
                    for octet in os.fsencode(name))
     return f"$'{text}'" if name.endswith("\n") else f"\"$(printf '{text}')\""
+
+
+def beside(name: str, ending: str) -> str:
+    """The name of a file beside one, with an ending, and no longer than names may be."""
+    folder, base = os.path.split(name)
+    while len(os.fsencode(base + ending)) > 255:
+        base = base[:-1]
+    return quoted(os.path.join(folder, base + ending))
 
 
 def shell(recording: RecordingFile, words: Sequence[str], source: Optional[str] = None) -> str:

@@ -4,7 +4,7 @@ import re
 from typing import Dict, List, Optional
 
 from .._signs import Frames, by_control, inner, plain_evidence, randomiser, strides, unmasked
-from .answer import Answer, Piece, RecordingFile, quoted
+from .answer import Answer, Piece, RecordingFile, beside, quoted
 from .cadu import stripped
 from .tm import about_tm, tm_commands
 
@@ -26,15 +26,15 @@ def archive(recording: RecordingFile, head: bytes) -> Optional[Answer]:
     for magic, what, command in ARCHIVES:
         if head.startswith(magic):
             bare = re.sub(r"\.(gz|bz2|xz|zst|zip)$", "", recording.name)
-            target = quoted(bare if bare != recording.name else recording.name + ".unpacked")
+            target = quoted(bare) if bare != recording.name else beside(bare, ".unpacked")
             return Answer(what, [], (), [command.format(name, target)], places=[(0, len(magic))])
     for magic, what in CAPTURES:
         if head.startswith(magic):
             return Answer(f"{what}, of packets of a network", [], (),
                           [f"tshark -r {name} -T fields -e udp.payload | xxd -r -p > "
-                           f"{quoted(recording.name + '.frames')}"], places=[(0, len(magic))])
+                           f"{beside(recording.name, '.frames')}"], places=[(0, len(magic))])
     if head and re.fullmatch(rb"[0-9A-Fa-f\s]*", head[:65536]) and re.search(rb"[0-9A-Fa-f]{8}", head[:65536]):
-        return Answer("hexadecimal digits", [], (), [f"xxd -r -p < {name} > {quoted(recording.name + '.octets')}"],
+        return Answer("hexadecimal digits", [], (), [f"xxd -r -p < {name} > {beside(recording.name, '.octets')}"],
                       places=[(0, 8)])
     return None
 

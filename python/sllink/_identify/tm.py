@@ -4,7 +4,7 @@ from binascii import crc_hqx
 from collections import Counter
 from typing import Dict, Iterable, List, Optional, Sequence, Set, Tuple
 
-from .._signs import LONGEST, SHORTEST, Frames, by_control, inner, plain_evidence, right_fields, strides
+from .._signs import LONGEST, SHORTEST, Frames, by_control, inner, plain_evidence, right_fields, rising_rows, strides
 from .answer import (HEAD, WHOLE, Answer, Piece, RecordingFile, astray, field_line, frames_line, joined, listed,
                      piece_lines, quoted, shell)
 from .headers import ROWS, phases, spacecraft
@@ -99,6 +99,13 @@ def in_turn(head: bytes, lengths: Iterable[int]) -> Set[int]:
     return found
 
 
+def aos_between(head: bytes, length: int, phase: int) -> bool:
+    """Whether AOS frames of a part of this length come in turn with TM frames of it."""
+    rows = min(len(head) // length - 1, 64)
+    return any(rising_rows(head, length, phase + length // number * place, rows, bytes(8), 1) >= max(3, 0.5 * rows)
+               for number in range(2, TURNS + 1) if length % number == 0 for place in range(1, number))
+
+
 def multiple(length: int, others: Iterable[int]) -> bool:
     """Whether the length is a multiple of another one."""
     return any(length % other == 0 for other in others)
@@ -125,6 +132,8 @@ def tm_answer(recording: RecordingFile, head: bytes, length: int, phase: int, fr
     if fecf is False and not plain_evidence(known):
         rising, pairs = sum(known.steps.values()), sum(known.pairs.values())
         why = f"too few headers agree, or too few counts rise: {rising} of {pairs}"
+    if fecf is False and aos_between(head, length, search.pieces[0][0] % length):
+        why = "headers of AOS transfer frames lie within these frames"
     if fecf and known.checked() < 3 and recording.size % length:
         why = "only two frames have a right error control field, and the recording doesn't end with a frame"
     lines = [frames_line(recording, known, length, search.vain), *about_tm(known, fecf)]

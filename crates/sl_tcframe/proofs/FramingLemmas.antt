@@ -7,7 +7,7 @@ use Rattle.std.proofs.lemmas.List.{length-take, take-append-drop, take-append-le
 use Rattle.sl_fields.specs.Field.{number_of}
 use Rattle.sl_tcframe.specs.TcFrame.{TcFormat, least_of, stated_frame_len}
 use Rattle.sl_fields.specs.TcHeader.{tc_header}
-use Rattle.sl_tcframe.specs.TcFraming.{BeginsWithFrame, FrameFront, Incomplete, BelowLeast, WholeFrame, IsRest, TakesUpToFrame, len_by_four, front_of}
+use Rattle.sl_tcframe.specs.TcFraming.{FrameFront, Incomplete, BelowLeast, WholeFrame, IsRest, IsSplit, TakesUpToFrame, len_by_four, front_of}
 use Rattle.sl_tcframe.proofs.PartLemmas.{facts_cut}
 
 -- ---- the front
@@ -247,10 +247,10 @@ four_state_it (a ∷ b ∷ c ∷ d ∷ e ∷ more) five small =
 stated_frame_len-append : (octets more : List ℕ) → 5 ≤ length octets → stated_frame_len (octets ++ more) ≡ stated_frame_len octets
 stated_frame_len-append octets more five = ap (λ front. (tc_header front).length + 1) (take-append-le 5 octets more five)
 
-pub begins_with_frame : (format : TcFormat) (octets frame later : List ℕ) (len : ℕ) → slice_index_or octets 4 0 < 256
+pub is_split : (format : TcFormat) (octets frame later : List ℕ) (len : ℕ) → slice_index_or octets 4 0 < 256
     → (if nat_lt (length octets) 4 then None else Some (len_by_four octets)) ≡ Some len → least_of format ≤ len
-    → octets ≡ frame ++ later → length frame ≡ len → BeginsWithFrame format octets frame later
-begins_with_frame format octets frame later len small stated least parts size =
+    → octets ≡ frame ++ later → length frame ≡ len → IsSplit format octets frame later
+is_split format octets frame later len small stated least parts size =
     let told = len_told octets len stated in
     let inside : len ≤ length octets = omega (arith, ap length parts, length-append frame later, size) in
     let same : len ≡ stated_frame_len frame =
@@ -258,6 +258,6 @@ begins_with_frame format octets frame later len small stated least parts size =
     ∙ stated_frame_len-append frame later (omega (arith, least, size)) in
     record {
       parts = parts;
-      whole = front_whole format octets told.0 (omega (arith, least, told.1)) (omega (arith, inside, told.1)) ∙ ap WholeFrame (sym told.1 ∙ sym size);
+      front = front_whole format octets told.0 (omega (arith, least, told.1)) (omega (arith, inside, told.1)) ∙ ap WholeFrame (sym told.1 ∙ sym size);
       cut = facts_cut format frame (omega (arith, least, size)) (size ∙ same);
     }

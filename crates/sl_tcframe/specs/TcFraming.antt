@@ -1,5 +1,5 @@
 -- How a framer delimits the TC frames of a recording that comes in chunks. Only contracts of
--- private functions cite `BeginsWithFrame`, `TakesUpToFrame` and `Answers`.
+-- private functions cite `IsSplit`, `TakesUpToFrame` and `YieldsFrameOrNone`.
 use Rattle.std.specs.Prelude.{◌≡◌, ◌⊎◌, ⊤, ◌↔◌, ℕ, nat_lt, Bool, true, false, if◌then◌else◌, List, [], ◌∷◌, ◌++◌, length, take, drop, Option, None, Some, IsNone}
 use Rattle.std.specs.Borrow.{Bor}
 use Rattle.std.specs.List.{concat}
@@ -120,18 +120,19 @@ pub record HasTaken (old : TcFraming) (chunk : List ℕ) (answer : Option (Bor (
 
 -- The answer of a call, and what is left of the chunk. The answer is a frame, which is one by its
 -- frame length field, or no frame is whole.
-abbrev pub Answers : TcFraming → List ℕ → Option (Bor (List ℕ)) → List ℕ → Type 0
-Answers old chunk None left = YieldsNone old chunk left
-Answers old chunk (Some frame) left = YieldsFrame old chunk frame.now left × (is_cut old.format frame.now ≡ true)
+abbrev pub YieldsFrameOrNone : TcFraming → List ℕ → Option (Bor (List ℕ)) → List ℕ → Type 0
+YieldsFrameOrNone old chunk None left = YieldsNone old chunk left
+YieldsFrameOrNone old chunk (Some frame) left =
+    YieldsFrame old chunk frame.now left × (is_cut old.format frame.now ≡ true)
 
 -- A framer that is stuck takes no octet and returns no frame.
 abbrev pub StaysStuck : TcFraming → List ℕ → Option (Bor (List ℕ)) → List ℕ → Type 0
 StaysStuck old chunk answer left = IsStuck old → (left ≡ chunk) × IsNone answer
 
--- The octets begin with this whole frame, and these octets come after it.
-pub record BeginsWithFrame (format : TcFormat) (octets frame later : List ℕ) : Type 0 where
+-- The octets are split into the whole frame at their front and the octets after it.
+pub record IsSplit (format : TcFormat) (octets frame later : List ℕ) : Type 0 where
   pub parts : octets ≡ frame ++ later
-  pub whole : front_of format octets ≡ WholeFrame (length frame)
+  pub front : front_of format octets ≡ WholeFrame (length frame)
   pub cut : is_cut format frame ≡ true
 
 -- Octets of the chunk are taken after the `old` ones. With `true` they are taken up to the end of a

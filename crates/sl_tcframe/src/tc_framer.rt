@@ -4,7 +4,7 @@ ghost use Rattle.std.specs.Prelude.{length, take, drop, Some, None, IfSome, IfNo
 ghost use Rattle.std.specs.Borrow.{sem};
 ghost use Rattle.std.specs.Io.BufRead.{Rests};
 ghost use Rattle.sl_tcframe.specs.TcFrame.{is_cut, stated_frame_len};
-ghost use Rattle.sl_tcframe.specs.TcFraming.{BeginsWithFrame, BelowLeast, IsRest, TakesUpToFrame};
+ghost use Rattle.sl_tcframe.specs.TcFraming.{BelowLeast, IsRest, IsSplit, TakesUpToFrame};
 ghost use Rattle.sl_tcframe.specs.TcFraming.{front_of, len_by_four};
 
 use crate::tc_shape::TcShape;
@@ -36,8 +36,8 @@ impl Model for TcFramer {
 }
 
 impl TcFramer {
-    ghost use Rattle.sl_tcframe.specs.TcFraming.{Answers, IsStuck, HasTaken, StaysStuck};
-    ghost use Rattle.sl_tcframe.specs.TcFraming.{YieldsFrame, YieldsNone, at_start};
+    ghost use Rattle.sl_tcframe.specs.TcFraming.{IsStuck, HasTaken, StaysStuck, at_start};
+    ghost use Rattle.sl_tcframe.specs.TcFraming.{YieldsFrame, YieldsFrameOrNone, YieldsNone};
     ghost use Rattle.sl_tcframe.specs.contracts.tc_framer.TcFramer.{the_row};
 
     /// A framer for frames of this format. No octet is taken yet.
@@ -144,11 +144,12 @@ impl TcFramer {
     }
 
     // As `next`, where `next_from` finds no whole frame in the piece alone. Such calls are expected
-    // to be rare. The clause `answer` is `frame`, `cut` and `none` in one.
+    // to be rare. The clause `answer` is `frame`, `cut` and `none` in one: no proof names one of
+    // them here.
     #[cold]
     fn next_across(&mut self, piece: &mut &[u8]) -> Option<&[u8]>
         ensures* taken { sem 𝓛 (Rests the_row self.entry (HasTaken self.old piece.old.now result)) }
-        ensures answer { Answers self.old piece.old.now result piece.new.now }
+        ensures answer { YieldsFrameOrNone self.old piece.old.now result piece.new.now }
         ensures stuck { StaysStuck self.old piece.old.now result piece.new.now }
     {
         self.next(piece)
@@ -160,7 +161,7 @@ impl TcFramer {
 #[inline]
 fn split_frame<'p>(shape: &TcShape, octets: &'p [u8]) -> Option<(&'p [u8], &'p [u8])>
     ensures { IfSome result (λ parts.
-        BeginsWithFrame shape.now octets.now parts.0.now parts.1.now) }
+        IsSplit shape.now octets.now parts.0.now parts.1.now) }
 {
     let len = len_if_stated(octets)?;
     if len < usize::from(shape.least()) || octets.len() < len {

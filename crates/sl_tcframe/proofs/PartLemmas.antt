@@ -42,9 +42,9 @@ has_parts format frame cut =
     }
 
 -- the three parts of a list, by their lengths
-cut_parts : (h f e : List ℕ) → (take (length h) (h ++ f ++ e) ≡ h) × (take (length f) (drop (length h) (h ++ f ++ e)) ≡ f)
+split_three : (h f e : List ℕ) → (take (length h) (h ++ f ++ e) ≡ h) × (take (length f) (drop (length h) (h ++ f ++ e)) ≡ f)
     × (drop (length h + length f) (h ++ f ++ e) ≡ e)
-cut_parts h f e =
+split_three h f e =
     let nested : h ++ f ++ e ≡ h ++ (f ++ e) = append_assoc h f e in
     let second : drop (length h) (h ++ (f ++ e)) ≡ f ++ e = drop-append_seam h (f ++ e) in
     let third : drop (length h + length f) (h ++ (f ++ e)) ≡ e = drop-append-add h (f ++ e) (length f) ∙ drop-append_seam f e in
@@ -64,17 +64,17 @@ all_octets format frame p a =
 -- the header at the front of a frame with these parts
 same_header : (format : TcFormat) (frame : List ℕ) (p : TcParts) → ArePartsOf format frame p → take 5 frame ≡ p.header
 same_header format frame p a =
-    ap (λ n. take n frame) (sym a.header) ∙ ap (take (length p.header)) a.in_order ∙ (cut_parts p.header p.field p.fecf).0
+    ap (λ n. take n frame) (sym a.header) ∙ ap (take (length p.header)) a.in_order ∙ (split_three p.header p.field p.fecf).0
 
 pub only_parts : (format : TcFormat) (frame : List ℕ) (p : TcParts) → ArePartsOf format frame p → tc_parts_of format frame ≡ p
 only_parts format frame p a =
-    let cut = cut_parts p.header p.field p.fecf in
+    let three = split_three p.header p.field p.fecf in
     let all = all_octets format frame p a in
     let field : field_len format frame ≡ length p.field = omega arith in
     let second : take (length p.field) (drop 5 frame) ≡ p.field =
-    ap (λ n. take (length p.field) (drop n frame)) (sym a.header) ∙ ap (λ l. take (length p.field) (drop (length p.header) l)) a.in_order ∙ cut.1 in
+    ap (λ n. take (length p.field) (drop n frame)) (sym a.header) ∙ ap (λ l. take (length p.field) (drop (length p.header) l)) a.in_order ∙ three.1 in
     let last : drop (5 + length p.field) frame ≡ p.fecf =
-    ap (λ n. drop (n + length p.field) frame) (sym a.header) ∙ ap (drop (length p.header + length p.field)) a.in_order ∙ cut.2 in
+    ap (λ n. drop (n + length p.field) frame) (sym a.header) ∙ ap (drop (length p.header + length p.field)) a.in_order ∙ three.2 in
     same_parts (take 5 frame) p.header _ p.field _ p.fecf (same_header format frame p a)
     (ap (λ n. take n (drop 5 frame)) field ∙ second)
     (ap (λ n. drop (5 + n) frame) field ∙ last)

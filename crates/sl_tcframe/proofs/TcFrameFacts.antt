@@ -124,9 +124,9 @@ pub record AreDelimited : Type 0 where
   pub below_the_least : is_cut (format 16) (0x00 ∷ 0x01 ∷ 0x00 ∷ 0x03 ∷ []) ≡ false
   pub error_control_least : is_cut (with_error_control 16) (0x00 ∷ 0x01 ∷ 0x00 ∷ 0x05 ∷ 0x00 ∷ 0x00 ∷ []) ≡ false
   pub frames : tc_frames_of (format 16) (carrier ++ short 0x40 ++ 0x00 ∷ 0x01 ∷ []) ≡ carrier ∷ short 0x40 ∷ []
-  pub rest : tc_remainder_of (format 16) (carrier ++ short 0x40 ++ 0x00 ∷ 0x01 ∷ []) ≡ 0x00 ∷ 0x01 ∷ []
+  pub remainder : tc_remainder_of (format 16) (carrier ++ short 0x40 ++ 0x00 ∷ 0x01 ∷ []) ≡ 0x00 ∷ 0x01 ∷ []
   pub frames_before_a_wrong_length : tc_frames_of (format 16) (carrier ++ 0x00 ∷ 0x01 ∷ 0x00 ∷ 0x02 ∷ carrier) ≡ carrier ∷ []
-  pub rest_from_a_wrong_length : tc_remainder_of (format 16) (carrier ++ 0x00 ∷ 0x01 ∷ 0x00 ∷ 0x02 ∷ carrier) ≡ 0x00 ∷ 0x01 ∷ 0x00 ∷ 0x02 ∷ carrier
+  pub remainder_from_a_wrong_length : tc_remainder_of (format 16) (carrier ++ 0x00 ∷ 0x01 ∷ 0x00 ∷ 0x02 ∷ carrier) ≡ 0x00 ∷ 0x01 ∷ 0x00 ∷ 0x02 ∷ carrier
   pub four_octets : tc_frames_of (format 16) (0x00 ∷ 0x01 ∷ 0x00 ∷ 0x03 ∷ []) ≡ []
   pub five_octets : tc_frames_of (format 16) (0x00 ∷ 0x01 ∷ 0x00 ∷ 0x04 ∷ 0x00 ∷ []) ≡ (0x00 ∷ 0x01 ∷ 0x00 ∷ 0x04 ∷ 0x00 ∷ []) ∷ []
   pub longer_than_managed : tc_frames_of (format 16) ((0x00 ∷ 0x01 ∷ 0x00 ∷ 0x10 ∷ 0x00 ∷ replicate 12 0) ++ short 0x00) ≡ (0x00 ∷ 0x01 ∷ 0x00 ∷ 0x10 ∷ 0x00 ∷ replicate 12 0) ∷ short 0x00 ∷ []
@@ -141,9 +141,9 @@ frames_are_delimited = record {
   below_the_least = refl;
   error_control_least = refl;
   frames = refl;
-  rest = refl;
+  remainder = refl;
   frames_before_a_wrong_length = refl;
-  rest_from_a_wrong_length = refl;
+  remainder_from_a_wrong_length = refl;
   four_octets = refl;
   five_octets = refl;
   longer_than_managed = refl;

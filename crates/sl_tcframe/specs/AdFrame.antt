@@ -5,7 +5,7 @@ use Rattle.sl_fields.specs.Field.{octets_of}
 use Rattle.sl_fields.specs.SegmentHeader.{SegmentFields, segment_octets}
 use Rattle.sl_tcframe.specs.TcFrame.{TcFormat, Ad, is_cut, tc_frame}
 
--- the greatest length of a data field in octets
+-- the greatest length of a data field in octets, with a segment header or without
 abbrev pub plain_room_of : TcFormat → ℕ
 plain_room_of format = format.max - 5 - fecf_len format.fecf
 
@@ -13,10 +13,11 @@ plain_room_of format = format.max - 5 - fecf_len format.fecf
 abbrev pub segment_room_of : TcFormat → ℕ
 segment_room_of format = format.max - 6 - fecf_len format.fecf
 
--- The fields of the header of a frame that has `len` octets, which is the `ad_header` of
--- `sl_fields`, each as its width in bits and its value: version 0, bypass flag 0, control command
--- flag 0, spare bits 0, the spacecraft, the virtual channel, the frame length (the octets of the
--- frame minus 1), and N(S).
+-- The fields of the header of a frame that has `len` octets, each as its width in bits and its
+-- value: version 0, bypass flag 0, control command flag 0, spare bits 0, the spacecraft, the
+-- virtual channel, the frame length (the octets of the frame minus 1), and N(S). This is
+-- `tc_fields (ad_header ..)` of `sl_fields`, written out so that who checks the headline
+-- (docs/reading.md) has two definitions fewer to read.
 abbrev pub ad_fields : ℕ → ℕ → ℕ → ℕ → List (ℕ × ℕ)
 ad_fields spacecraft vc ns len =
     (2, 0) ∷ (1, 0) ∷ (1, 0) ∷ (2, 0) ∷ (10, spacecraft) ∷ (6, vc) ∷ (10, len - 1) ∷ (8, ns) ∷ []
@@ -37,8 +38,9 @@ segment_unit header octets = segment_octets header ++ octets
 
 -- ---- laws
 
--- these values fit in a frame of type AD: the greatest length of the format is managed, the
--- header's fields can hold the values, and the data field can hold the unit
+-- these values fit in a frame of type AD: the greatest length of the format is one that
+-- `TcShape::new` takes, 16 to 1024; the header's fields can hold the values; and the data field can
+-- hold the unit, with its segment header if it has one
 pub record FitAdFrame (format : TcFormat) (spacecraft vc ns : ℕ) (unit : List ℕ) : Type 0 where
   pub least : 16 ≤ format.max
   pub most : format.max ≤ 1024

@@ -7,8 +7,8 @@ use Rattle.sl_tcframe.specs.TcFrame.{TcFormat, stated_frame_len, least_of, is_cu
 
 -- No frame begins with these octets, so the recording's frames end here. One of three things is so:
 -- there are fewer octets than a primary header has, the stated length is below the least length of
--- a frame, or there are fewer octets than the stated length. Four octets already state a length,
--- but no frame has only four octets.
+-- a frame, or there are fewer octets than the stated length. No frame has only four octets.
+-- (`front_of` needs four, since the frame length field ends there.)
 abbrev pub begin_no_frame : TcFormat → List ℕ → Bool
 begin_no_frame format octets =
     nat_lt (length octets) 5

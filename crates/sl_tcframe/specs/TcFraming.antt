@@ -24,7 +24,8 @@ pub data FrameFront : Type 0 where
 abbrev pub len_by_four : List ℕ → ℕ
 len_by_four octets = stated_frame_len (take 4 octets ++ 0 ∷ [])
 
--- how far the frame at the front of these octets has come
+-- how far the frame at the front of these octets has come (`front_len` of TcDelimited has only the
+-- length of a whole frame)
 abbrev pub front_of : TcFormat → List ℕ → FrameFront
 front_of format octets =
     if nat_lt (length octets) 4 then Incomplete
@@ -44,7 +45,7 @@ abbrev pub at_start : TcFormat → TcFraming
 at_start format = record { format = format; rest = [] }
 
 -- the octets that were taken after the last frame, from the flag `is_lent` and the octets of the
--- buffer: none where these are the last frame itself
+-- buffer: none where these are a frame that was returned
 abbrev pub waiting_octets : Bool → List ℕ → List ℕ
 waiting_octets true buffer = []
 waiting_octets false buffer = buffer
@@ -59,8 +60,8 @@ abbrev pub IsRest : TcFormat → List ℕ → Type 0
 IsRest format octets =
     (front_of format octets ≡ Incomplete) ⊎ ((front_of format octets ≡ BelowLeast) × (length octets ≡ 4))
 
--- what holds of the octets of a framer's buffer, under the flag `is_lent`: nothing where they are
--- the last frame itself, and `IsRest` where they came after it
+-- what holds of the octets of a framer's buffer, under the flag `is_lent`: nothing where they are a
+-- frame that was returned, and `IsRest` where they came after the last frame
 abbrev pub IsTaken : Bool → TcFormat → List ℕ → Type 0
 IsTaken true format buffer = ⊤
 IsTaken false format buffer = IsRest format buffer
@@ -78,13 +79,14 @@ pub record YieldsFrame (old : TcFraming) (chunk frame left : List ℕ) : Type 0 
   pub whole : front_of old.format (old.rest ++ chunk) ≡ WholeFrame (length frame)
 
 -- the octets that are held after a call without a frame, by how far a frame had come: all, or the
--- four that state a length below the least
+-- four that state a length below the least (never `WholeFrame` here)
 abbrev pub taken_at : FrameFront → List ℕ → List ℕ
 taken_at Incomplete octets = octets
 taken_at BelowLeast octets = take 4 octets
 taken_at (WholeFrame len) octets = []
 
 -- the octets that are left of the chunk after a call without a frame: none, or those after the four
+-- (never `WholeFrame` here)
 abbrev pub left_at : FrameFront → List ℕ → List ℕ
 left_at Incomplete octets = []
 left_at BelowLeast octets = drop 4 octets

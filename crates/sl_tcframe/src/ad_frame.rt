@@ -117,8 +117,8 @@ struct AdFrame<'a> {
 fn push_ad(out: &mut Vec<u8>, shape: &TcShape, frame: &AdFrame) -> Result<(), AllocError>
     requires spacecraft { frame.now.spacecraft ≤ 1023 }
     requires vc { frame.now.vc ≤ 63 }
-    // The two parts together are a data field of at most the greatest length: `plain_room_of`, or a
-    // segment header and its room.
+    // The two parts together are a data field of at most the greatest length. For 16 <= max
+    // `plain_room_of` is this bound too, but the proof of `push_tc` doesn't have 16 <= max.
     requires unit { length frame.now.segment.now + length frame.now.octets.now
         ≤ 1 + segment_room_of shape.now }
     // The frame is added.
@@ -162,7 +162,8 @@ fn frame_len(shape: &TcShape, unit: usize) -> u16
     ensures least { 5 ≤ result }
     ensures most { result ≤ 1024 }
 {
-    // `TcShape::least`, written out: a proof knows the range of a format whose field it reads.
+    // Not `shape.least()`: only code that reads a field of `shape` has 16 <= max <= 1024 in its
+    // proof, and `most` needs it.
     let around = if shape.fecf { 7 } else { 5 };
     around + unit as u16
 }

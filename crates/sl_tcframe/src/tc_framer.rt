@@ -18,10 +18,11 @@ use std::marker::Model;
 #[derive(Drop)]
 pub struct TcFramer {
     shape: TcShape,
-    // Whether `buffer` is the frame that the last call returned. The next call clears it then.
+    // Whether `buffer` is a frame that was returned already. Then the next call of `next` clears
+    // it; `next_from` may return frames of a piece meanwhile.
     is_lent: bool,
-    // The octets that were taken after the last frame, or where `is_lent` is set, the octets of
-    // that frame.
+    // The octets that were taken after the last frame, or where `is_lent` is set, the octets of the
+    // frame that was returned from here.
     buffer: ArrayVec<u8, 1024>,
 }
 
@@ -52,7 +53,8 @@ impl TcFramer {
     }
 
     /// The octets that were taken after the last frame. There are fewer than a frame needs, or
-    /// exactly four that state a length below [`TcShape::least`].
+    /// exactly four that state a length below [`TcShape::least`]. When a recording has ended, its
+    /// remainder is these octets and then those that weren't taken.
     pub fn rest(&self) -> &[u8]
         ensures octets { result.now ≡ self.now.rest }
         ensures part { IsRest self.now.format result.now }
@@ -195,7 +197,8 @@ fn complete(shape: &TcShape, taken: &mut ArrayVec<u8, 1024>, chunk: &mut &[u8]) 
 }
 
 // Whether there are at least `len` octets, the length that the first four state. A function of its
-// own for its proof: where there are so many, the header's five octets state this length too.
+// own for its proof: where it answers true, `stated_frame_len`, which reads five octets, equals
+// what `len_if_stated` answered, which is `len`.
 fn is_whole(octets: &[u8], len: usize) -> bool
     requires stated { len ≡ len_by_four octets.now }
     requires header { 5 ≤ len }

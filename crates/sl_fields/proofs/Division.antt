@@ -5,7 +5,7 @@ use Rattle.std.proofs.lemmas.Nat.{xor_block}
 use Rattle.std.proofs.Math.Nat.{pow-suc}
 use Rattle.std.proofs.lemmas.Grind.{flat_map-append}
 use Rattle.sl_fields.specs.Field.{bit_of}
-use Rattle.sl_fields.specs.Fecf.{bits_number, plus_bit, plus_word, generator, divided, remainder, preset, register_of, fecf_of, octet_bits, bits_of}
+use Rattle.sl_fields.specs.Fecf.{bits_number, plus_bit, plus_bits, generator, divided, remainder, preset, register_of, fecf_of, octet_bits, bits_of}
 
 -- the generator without its first bit
 abbrev pub low_generator : List Bool
@@ -14,7 +14,7 @@ low_generator = drop 1 generator
 -- fifteen bits moved up by one, with the generator added where the bit that left the register is 1
 abbrev pub reduced : Bool → List Bool → List Bool
 reduced false word = word ++ false ∷ []
-reduced true word = plus_word low_generator (word ++ false ∷ [])
+reduced true word = plus_bits low_generator (word ++ false ∷ [])
 
 -- the register's bits after one more bit of the message
 abbrev pub stepped : List Bool → Bool → List Bool
@@ -34,10 +34,10 @@ ones = replicate 16 true
 
 -- sums without carries
 
-pub length-plus_word : (word bits : List Bool) → length (plus_word word bits) ≡ length bits
-length-plus_word [] bits = refl
-length-plus_word (w ∷ word) [] = refl
-length-plus_word (w ∷ word) (b ∷ bits) = ap suc (length-plus_word word bits)
+pub length-plus_bits : (word bits : List Bool) → length (plus_bits word bits) ≡ length bits
+length-plus_bits [] bits = refl
+length-plus_bits (w ∷ word) [] = refl
+length-plus_bits (w ∷ word) (b ∷ bits) = ap suc (length-plus_bits word bits)
 
 plus_bit-false : (w : Bool) → plus_bit w false ≡ w
 plus_bit-false false = refl
@@ -49,44 +49,44 @@ plus_bit-assoc true false c = refl
 plus_bit-assoc true true false = refl
 plus_bit-assoc true true true = refl
 
-pub plus_word-zeros : (word : List Bool) → plus_word word (replicate (length word) false) ≡ word
-plus_word-zeros [] = refl
-plus_word-zeros (w ∷ word) = rw (plus_bit-false w, plus_word-zeros word) refl
+pub plus_bits-zeros : (word : List Bool) → plus_bits word (replicate (length word) false) ≡ word
+plus_bits-zeros [] = refl
+plus_bits-zeros (w ∷ word) = rw (plus_bit-false w, plus_bits-zeros word) refl
 
 -- a zero at the end of the word adds nothing
-plus_word-longer : (word bits : List Bool) → plus_word (word ++ false ∷ []) bits ≡ plus_word word bits
-plus_word-longer [] [] = refl
-plus_word-longer [] (b ∷ bits) = refl
-plus_word-longer (w ∷ word) [] = refl
-plus_word-longer (w ∷ word) (b ∷ bits) = ap (λ rest. plus_bit w b ∷ rest) (plus_word-longer word bits)
+plus_bits-longer : (word bits : List Bool) → plus_bits (word ++ false ∷ []) bits ≡ plus_bits word bits
+plus_bits-longer [] [] = refl
+plus_bits-longer [] (b ∷ bits) = refl
+plus_bits-longer (w ∷ word) [] = refl
+plus_bits-longer (w ∷ word) (b ∷ bits) = ap (λ rest. plus_bit w b ∷ rest) (plus_bits-longer word bits)
 
-pub plus_word-assoc : (vs ws bits : List Bool) → length vs ≤ length ws → plus_word vs (plus_word ws bits) ≡ plus_word (plus_word vs ws) bits
-plus_word-assoc [] ws bits e = refl
-plus_word-assoc (v ∷ vs) [] bits e = absurd (omega arith)
-plus_word-assoc (v ∷ vs) (w ∷ ws) [] e = refl
-plus_word-assoc (v ∷ vs) (w ∷ ws) (b ∷ bits) e =
+pub plus_bits-assoc : (vs ws bits : List Bool) → length vs ≤ length ws → plus_bits vs (plus_bits ws bits) ≡ plus_bits (plus_bits vs ws) bits
+plus_bits-assoc [] ws bits e = refl
+plus_bits-assoc (v ∷ vs) [] bits e = absurd (omega arith)
+plus_bits-assoc (v ∷ vs) (w ∷ ws) [] e = refl
+plus_bits-assoc (v ∷ vs) (w ∷ ws) (b ∷ bits) e =
     let within : length vs ≤ length ws = omega arith in
-    rw (plus_bit-assoc v w b, plus_word-assoc vs ws bits within) refl
+    rw (plus_bit-assoc v w b, plus_bits-assoc vs ws bits within) refl
 
 -- the preset adds sixteen ones
-pub preset-ones : (k : ℕ) (bits : List Bool) → map not (take k bits) ++ drop k bits ≡ plus_word (replicate k true) bits
+pub preset-ones : (k : ℕ) (bits : List Bool) → map not (take k bits) ++ drop k bits ≡ plus_bits (replicate k true) bits
 preset-ones zero bits = refl
 preset-ones (suc k) [] = refl
 preset-ones (suc k) (b ∷ bits) = ap (λ rest. not b ∷ rest) (preset-ones k bits)
 
 -- the register does the division
 
-divided-step : (q : Bool) (word bits : List Bool) → length word ≡ 15 → divided (suc (length bits)) (q ∷ plus_word word (bits ++ zeros)) ≡ divided (length bits) (plus_word (reduced q word) (bits ++ zeros))
-divided-step false word bits e = ap (λ l. divided (length bits) l) (sym (plus_word-longer word (bits ++ zeros)))
+divided-step : (q : Bool) (word bits : List Bool) → length word ≡ 15 → divided (suc (length bits)) (q ∷ plus_bits word (bits ++ zeros)) ≡ divided (length bits) (plus_bits (reduced q word) (bits ++ zeros))
+divided-step false word bits e = ap (λ l. divided (length bits) l) (sym (plus_bits-longer word (bits ++ zeros)))
 divided-step true word bits e =
     let longer : length low_generator ≤ length (word ++ false ∷ []) = omega (arith, length-append word (false ∷ [])) in
     ap (λ l. divided (length bits) l)
-    (ap (λ l. plus_word low_generator l) (sym (plus_word-longer word (bits ++ zeros)))
-    ∙ plus_word-assoc low_generator (word ++ false ∷ []) (bits ++ zeros) longer)
+    (ap (λ l. plus_bits low_generator l) (sym (plus_bits-longer word (bits ++ zeros)))
+    ∙ plus_bits-assoc low_generator (word ++ false ∷ []) (bits ++ zeros) longer)
 
 pub length-reduced : (q : Bool) (word : List Bool) → length (reduced q word) ≡ length word + 1
 length-reduced false word = length-append word (false ∷ [])
-length-reduced true word = length-plus_word low_generator (word ++ false ∷ []) ∙ length-append word (false ∷ [])
+length-reduced true word = length-plus_bits low_generator (word ++ false ∷ []) ∙ length-append word (false ∷ [])
 
 pub length-stepped : (word : List Bool) (b : Bool) → length word ≡ 16 → length (stepped word b) ≡ 16
 length-stepped [] b e = absurd (omega arith)
@@ -96,8 +96,8 @@ pub length-ran : (word bits : List Bool) → length word ≡ 16 → length (ran 
 length-ran word [] e = e
 length-ran word (b ∷ bits) e = length-ran (stepped word b) bits (length-stepped word b e)
 
-pub divided-ran : (word bits : List Bool) → length word ≡ 16 → divided (length bits) (plus_word word (bits ++ zeros)) ≡ ran word bits
-divided-ran word [] e = ap (λ k. plus_word word (replicate k false)) (sym e) ∙ plus_word-zeros word
+pub divided-ran : (word bits : List Bool) → length word ≡ 16 → divided (length bits) (plus_bits word (bits ++ zeros)) ≡ ran word bits
+divided-ran word [] e = ap (λ k. plus_bits word (replicate k false)) (sym e) ∙ plus_bits-zeros word
 divided-ran [] (b ∷ bits) e = absurd (omega arith)
 divided-ran (s ∷ word) (b ∷ bits) e =
     let rest : length word ≡ 15 = omega arith in
@@ -105,7 +105,7 @@ divided-ran (s ∷ word) (b ∷ bits) e =
 
 remainder-ran : (bits : List Bool) → remainder (preset (bits ++ zeros)) ≡ ran ones bits
 remainder-ran bits =
-    let whole : length (preset (bits ++ zeros)) ≡ length bits + 16 = ap length (preset-ones 16 (bits ++ zeros)) ∙ length-plus_word ones (bits ++ zeros) ∙ length-append bits zeros in
+    let whole : length (preset (bits ++ zeros)) ≡ length bits + 16 = ap length (preset-ones 16 (bits ++ zeros)) ∙ length-plus_bits ones (bits ++ zeros) ∙ length-append bits zeros in
     let steps : length (preset (bits ++ zeros)) - 16 ≡ length bits = omega arith in
     rw (steps, preset-ones 16 (bits ++ zeros)) (divided-ran ones bits refl)
 
@@ -126,14 +126,14 @@ bit_of-plus false true = refl
 bit_of-plus true false = refl
 bit_of-plus true true = refl
 
-pub bits_number-plus : (vs ws : List Bool) → length vs ≡ length ws → bits_number (plus_word vs ws) ≡ bit_xor (bits_number vs) (bits_number ws)
+pub bits_number-plus : (vs ws : List Bool) → length vs ≡ length ws → bits_number (plus_bits vs ws) ≡ bit_xor (bits_number vs) (bits_number ws)
 bits_number-plus [] [] e = refl
 bits_number-plus [] (w ∷ ws) e = absurd (omega arith)
 bits_number-plus (v ∷ vs) [] e = absurd (omega arith)
 bits_number-plus (v ∷ vs) (w ∷ ws) e =
     let same : length vs ≡ length ws = omega arith in
     let below : bits_number vs < 2 ^ length ws = rw (← same) (bits_number-lt vs) in
-    rw (length-plus_word vs ws, same, bit_of-plus v w, bits_number-plus vs ws same)
+    rw (length-plus_bits vs ws, same, bit_of-plus v w, bits_number-plus vs ws same)
     (sym (xor_block (length ws) (bit_of v) (bit_of w) (bits_number vs) (bits_number ws) below (bits_number-lt ws)))
 
 -- the number of the register

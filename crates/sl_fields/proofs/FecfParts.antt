@@ -4,10 +4,10 @@ use Rattle.std.specs.Simd.Lanes.{zip2}
 use Rattle.std.proofs.lemmas.List.{length-append, length-replicate, replicate-append-replicate}
 use Rattle.std.proofs.lemmas.Nat.{xor_shr, xor_mod}
 use Rattle.std.proofs.lemmas.Grind.{flat_map-append}
-use Rattle.sl_fields.specs.Fecf.{octet_bits, bits_of, bits_number, plus_bit, plus_word, fecf_of}
+use Rattle.sl_fields.specs.Fecf.{octet_bits, bits_of, bits_number, plus_bit, plus_bits, fecf_of}
 use Rattle.sl_fields.specs.FecfFolds.{part_of}
-use Rattle.sl_fields.proofs.Division.{ran, zeros, ones, ran-append, length-ran, plus_word-zeros, bits_number-plus, fecf_of-register, register_of-ran, fecf_of-append}
-use Rattle.sl_fields.proofs.FecfSums.{plus_word-false, plus_word-append, ran-plus}
+use Rattle.sl_fields.proofs.Division.{ran, zeros, ones, ran-append, length-ran, plus_bits-zeros, bits_number-plus, fecf_of-register, register_of-ran, fecf_of-append}
+use Rattle.sl_fields.proofs.FecfSums.{plus_bits-false, plus_bits-append, ran-plus}
 use Rattle.sl_fields.proofs.FecfWordLemmas.{remainder-left}
 
 -- ---- bits, and this many zeros after them
@@ -26,23 +26,23 @@ left-append count xs ys =
     let none = replicate (length rest) false in
     let word = ran zeros xs in
     let long : length word ≡ 16 = length-ran zeros xs refl in
-    let whole : plus_word word zeros ≡ word = ap (λ n. plus_word word (replicate n false)) (sym long) ∙ plus_word-zeros word in
+    let whole : plus_bits word zeros ≡ word = ap (λ n. plus_bits word (replicate n false)) (sym long) ∙ plus_bits-zeros word in
     let many : length rest ≡ length ys + count = omega (arith, length-append ys (replicate count false), length-replicate count false) in
     ap (λ l. bits_number (ran zeros l)) (append_assoc xs ys (replicate count false))
     ∙ ap bits_number (ran-append zeros xs rest)
     ∙ ap (λ w. bits_number (ran w rest)) (sym whole)
-    ∙ ap (λ l. bits_number (ran (plus_word word zeros) l)) (sym (plus_word-false (length rest) rest))
+    ∙ ap (λ l. bits_number (ran (plus_bits word zeros) l)) (sym (plus_bits-false (length rest) rest))
     ∙ ap bits_number (ran-plus word zeros none rest long refl (length-replicate (length rest) false))
     ∙ bits_number-plus (ran word none) (ran zeros rest) (length-ran word none long ∙ sym (length-ran zeros rest refl))
     ∙ ap (λ l. bit_xor (bits_number l) (left count ys)) (sym (ran-append zeros xs none))
     ∙ ap (λ n. bit_xor (left n xs) (left count ys)) many
 
-pub left-plus : (count : ℕ) (xs ys : List Bool) → length xs ≡ length ys → left count (plus_word xs ys) ≡ bit_xor (left count xs) (left count ys)
+pub left-plus : (count : ℕ) (xs ys : List Bool) → length xs ≡ length ys → left count (plus_bits xs ys) ≡ bit_xor (left count xs) (left count ys)
 left-plus count xs ys e =
     let none = replicate count false in
     let same : length (xs ++ none) ≡ length (ys ++ none) = omega (arith, length-append xs none, length-append ys none) in
-    ap (λ l. bits_number (ran zeros (plus_word xs ys ++ l))) (sym (plus_word-false count none))
-    ∙ ap (λ l. bits_number (ran zeros l)) (sym (plus_word-append xs ys none none e))
+    ap (λ l. bits_number (ran zeros (plus_bits xs ys ++ l))) (sym (plus_bits-false count none))
+    ∙ ap (λ l. bits_number (ran zeros l)) (sym (plus_bits-append xs ys none none e))
     ∙ ap bits_number (ran-plus zeros zeros (xs ++ none) (ys ++ none) refl refl same)
     ∙ bits_number-plus (ran zeros (xs ++ none)) (ran zeros (ys ++ none)) (length-ran zeros (xs ++ none) refl ∙ sym (length-ran zeros (ys ++ none) refl))
 
@@ -101,18 +101,18 @@ last_bit a b = ap (λ n. n == 1) (xor_mod a b 1) ∙ parity (a % 2) (b % 2) (ome
 bit_at : (place a b : ℕ) → (bit_xor a b / 2 ^ place % 2 == 1) ≡ plus_bit (a / 2 ^ place % 2 == 1) (b / 2 ^ place % 2 == 1)
 bit_at place a b = ap (λ n. n % 2 == 1) (xor_shr a b place) ∙ last_bit (a / 2 ^ place) (b / 2 ^ place)
 
-octet_bits-xor : (a b : ℕ) → octet_bits (bit_xor a b) ≡ plus_word (octet_bits a) (octet_bits b)
+octet_bits-xor : (a b : ℕ) → octet_bits (bit_xor a b) ≡ plus_bits (octet_bits a) (octet_bits b)
 octet_bits-xor a b =
     rw (bit_at 7 a b, bit_at 6 a b, bit_at 5 a b, bit_at 4 a b, bit_at 3 a b, bit_at 2 a b, bit_at 1 a b, last_bit a b) refl
 
-bits_of-plus : (xs ys : List ℕ) → length xs ≡ length ys → bits_of (zip2 bit_xor xs ys) ≡ plus_word (bits_of xs) (bits_of ys)
+bits_of-plus : (xs ys : List ℕ) → length xs ≡ length ys → bits_of (zip2 bit_xor xs ys) ≡ plus_bits (bits_of xs) (bits_of ys)
 bits_of-plus [] [] e = refl
 bits_of-plus [] (y ∷ ys) e = absurd (omega arith)
 bits_of-plus (x ∷ xs) [] e = absurd (omega arith)
 bits_of-plus (x ∷ xs) (y ∷ ys) e =
     ap (λ l. l ++ bits_of (zip2 bit_xor xs ys)) (octet_bits-xor x y)
-    ∙ ap (λ l. plus_word (octet_bits x) (octet_bits y) ++ l) (bits_of-plus xs ys (omega arith))
-    ∙ sym (plus_word-append (octet_bits x) (octet_bits y) (bits_of xs) (bits_of ys) refl)
+    ∙ ap (λ l. plus_bits (octet_bits x) (octet_bits y) ++ l) (bits_of-plus xs ys (omega arith))
+    ∙ sym (plus_bits-append (octet_bits x) (octet_bits y) (bits_of xs) (bits_of ys) refl)
 
 pub part-plus : (later : ℕ) (xs ys : List ℕ) → length xs ≡ length ys → part_of later (zip2 bit_xor xs ys) ≡ bit_xor (part_of later xs) (part_of later ys)
 part-plus later xs ys e =

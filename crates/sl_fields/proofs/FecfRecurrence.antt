@@ -5,7 +5,7 @@ use Rattle.std.proofs.Common.{◌≡◌, ℕ, zero, suc, ◌+◌, ◌-◌, ◌*�
 use Rattle.std.specs.Simd.Lanes.{zip2}
 use Rattle.std.proofs.lemmas.List.{length-append, length-replicate}
 use Rattle.std.proofs.Math.Nat.{pow-suc, mul_assoc, mul_comm}
-use Rattle.sl_fields.specs.Fecf.{bits_of, plus_word, fecf_of}
+use Rattle.sl_fields.specs.Fecf.{bits_of, plus_bits, fecf_of}
 use Rattle.sl_fields.specs.FecfFolds.{part_of, plus_octets, with_run_at, RunsMayMove}
 use Rattle.sl_fields.proofs.FecfParts.{left, left-nil, left-append, left-plus, left-more, part-left, part-zeros, part-append, part-none, part-plus, preset_by_84_CF}
 use Rattle.sl_fields.proofs.Xor.{xor_none, xor_sums, xor_moved, xor_threes}
@@ -47,9 +47,9 @@ one_recurs n =
     let x12 = false ∷ (false ∷ (false ∷ (false ∷ (true ∷ replicate 12 false)))) in
     let x5 = replicate 11 false ++ (true ∷ replicate 5 false) in
     let x0 = replicate 16 false ++ (true ∷ []) in
-    let gone : 0 ≡ left n (plus_word x16 (plus_word x12 (plus_word x5 x0))) = sym (left-nil n) in
-    let sum = gone ∙ left-plus n x16 (plus_word x12 (plus_word x5 x0)) refl
-    ∙ ap (bit_xor (left n x16)) (left-plus n x12 (plus_word x5 x0) refl
+    let gone : 0 ≡ left n (plus_bits x16 (plus_bits x12 (plus_bits x5 x0))) = sym (left-nil n) in
+    let sum = gone ∙ left-plus n x16 (plus_bits x12 (plus_bits x5 x0)) refl
+    ∙ ap (bit_xor (left n x16)) (left-plus n x12 (plus_bits x5 x0) refl
     ∙ ap (bit_xor (left n x12)) (left-plus n x5 x0 refl)) in
     left-more 16 n (true ∷ [])
     ∙ xor_moved 0 (left n x16) (bit_xor (left n x12) (bit_xor (left n x5) (left n x0))) sum

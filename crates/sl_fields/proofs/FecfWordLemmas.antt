@@ -6,11 +6,11 @@ use Rattle.std.proofs.lemmas.List.FromFn.{get_or-range_with_len, get_or-map-rang
 use Rattle.std.proofs.lemmas.Nat.{xor_block, same_from_place, pow-add}
 use Rattle.std.proofs.Math.Nat.{mul_assoc}
 use Rattle.sl_fields.specs.Field.{bit_of, number_of}
-use Rattle.sl_fields.specs.Fecf.{octet_bits, bits_of, bits_number, plus_word, divided, remainder, fecf_of}
+use Rattle.sl_fields.specs.Fecf.{octet_bits, bits_of, bits_number, plus_bits, divided, remainder, fecf_of}
 use Rattle.sl_fields.specs.FecfWords.{word_of, AreWords}
 use Rattle.sl_fields.specs.declared.words.TheConstants.{WORDS}
-use Rattle.sl_fields.proofs.Division.{ran, zeros, ones, length-plus_word, length-ran, divided-ran, bits_number-lt, bits_number-plus, register_of-ran, fecf_of-register, fecf_of-append}
-use Rattle.sl_fields.proofs.FecfSums.{plus_word-false, ran-front}
+use Rattle.sl_fields.proofs.Division.{ran, zeros, ones, length-plus_bits, length-ran, divided-ran, bits_number-lt, bits_number-plus, register_of-ran, fecf_of-register, fecf_of-append}
+use Rattle.sl_fields.proofs.FecfSums.{plus_bits-false, ran-front}
 
 -- numbers of bits
 
@@ -54,11 +54,11 @@ octet_bits-number bits e =
     bits_number_injective (octet_bits (bits_number bits)) bits (sym e) (bits_number-octet (bits_number bits) below)
 
 -- the bits of the sum of two numbers
-pub octet_bits-plus : (bits : List Bool) (octet : ℕ) → length bits ≡ 8 → octet < 256 → octet_bits (bit_xor (bits_number bits) octet) ≡ plus_word bits (octet_bits octet)
+pub octet_bits-plus : (bits : List Bool) (octet : ℕ) → length bits ≡ 8 → octet < 256 → octet_bits (bit_xor (bits_number bits) octet) ≡ plus_bits bits (octet_bits octet)
 octet_bits-plus bits octet e h =
-    let both = plus_word bits (octet_bits octet) in
+    let both = plus_bits bits (octet_bits octet) in
     let number : bits_number both ≡ bit_xor (bits_number bits) octet = bits_number-plus bits (octet_bits octet) e ∙ ap (bit_xor (bits_number bits)) (bits_number-octet octet h) in
-    ap octet_bits (sym number) ∙ octet_bits-number both (length-plus_word bits (octet_bits octet))
+    ap octet_bits (sym number) ∙ octet_bits-number both (length-plus_bits bits (octet_bits octet))
 
 -- words
 
@@ -70,7 +70,7 @@ remainder-left count message =
     let steps : length (bits ++ zeros) - 16 ≡ length bits = omega (arith, length-append bits zeros) in
     ap (λ l. bits_number (remainder l)) whole
     ∙ ap (λ n. bits_number (divided n (bits ++ zeros))) steps
-    ∙ ap (λ l. bits_number (divided (length bits) l)) (sym (plus_word-false 16 (bits ++ zeros)))
+    ∙ ap (λ l. bits_number (divided (length bits) l)) (sym (plus_bits-false 16 (bits ++ zeros)))
     ∙ ap bits_number (divided-ran zeros bits refl)
 
 word_of-ran : (octet : ℕ) → word_of 0 octet ≡ bits_number (ran zeros (octet_bits octet))
@@ -126,7 +126,7 @@ register-halved before high low low_fits register =
 
 pub ran-octet : (front rest : List Bool) (octet : ℕ) → length front ≡ 8 → length rest ≡ 8 → octet < 256 → bits_number (ran (front ++ rest) (octet_bits octet)) ≡ bit_xor (bits_number rest * 256) (word_of 0 (bit_xor (bits_number front) octet))
 ran-octet front rest octet e f h =
-    let both = plus_word front (octet_bits octet) in
+    let both = plus_bits front (octet_bits octet) in
     let long : length (front ++ rest) ≡ 16 = omega (arith, length-append front rest) in
     let moved = rest ++ replicate (length front) false in
     let sixteen : length moved ≡ 16 = omega (arith, length-append rest (replicate (length front) false), length-replicate (length front) false) in

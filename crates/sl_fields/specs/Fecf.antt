@@ -25,12 +25,12 @@ abbrev pub plus_bit : Bool → Bool → Bool
 plus_bit false b = b
 plus_bit true b = not b
 
--- The sum without carries of two lists of bits, from the front on: the bits of the first list, the
--- word, are added to the first bits of the second. The sum is as long as the second list.
-abbrev pub plus_word : List Bool → List Bool → List Bool
-plus_word [] bits = bits
-plus_word (w ∷ word) [] = []
-plus_word (w ∷ word) (b ∷ bits) = plus_bit w b ∷ plus_word word bits
+-- The sum without carries of two lists of bits, from the front on: the bits of the first list are
+-- added to the first bits of the second. The sum is as long as the second list.
+abbrev pub plus_bits : List Bool → List Bool → List Bool
+plus_bits [] bits = bits
+plus_bits (a ∷ added) [] = []
+plus_bits (a ∷ added) (b ∷ bits) = plus_bit a b ∷ plus_bits added bits
 
 -- the seventeen bits of the generator x^16 + x^12 + x^5 + 1: 1 0001 0000 0010 0001
 abbrev pub generator : List Bool
@@ -45,7 +45,7 @@ generator =
 abbrev pub divided : ℕ → List Bool → List Bool
 divided zero bits = bits
 divided (suc steps) [] = []
-divided (suc steps) (b ∷ bits) = divided steps (drop 1 (cond b (plus_word generator (b ∷ bits)) (b ∷ bits)))
+divided (suc steps) (b ∷ bits) = divided steps (drop 1 (cond b (plus_bits generator (b ∷ bits)) (b ∷ bits)))
 
 -- The remainder by the generator: sixteen bits, or the bits themselves where there are fewer.
 abbrev pub remainder : List Bool → List Bool

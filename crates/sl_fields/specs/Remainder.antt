@@ -1,7 +1,7 @@
 -- What a remainder by the generator x^16 + x^12 + x^5 + 1 is, apart from any way to find it.
 use Rattle.std.specs.Prelude.{◌≡◌, ℕ, ◌+◌, ◌*◌, ◌≤◌, Bool, true, false, List, [], ◌∷◌, ◌++◌, length}
 use Rattle.std.specs.Prelude.{replicate}
-use Rattle.sl_fields.specs.Fecf.{generator, plus_word, remainder, preset, octet_bits, bits_of}
+use Rattle.sl_fields.specs.Fecf.{generator, plus_bits, remainder, preset, octet_bits, bits_of}
 use Rattle.sl_fields.specs.Fecf.{bits_number, fecf_of}
 use Rattle.sl_fields.specs.FecfWords.{word_of}
 
@@ -11,7 +11,7 @@ use Rattle.sl_fields.specs.FecfWords.{word_of}
 abbrev pub multiple : List Bool → List Bool
 multiple [] = replicate 16 false
 multiple (false ∷ quotient) = false ∷ multiple quotient
-multiple (true ∷ quotient) = plus_word generator (false ∷ multiple quotient)
+multiple (true ∷ quotient) = plus_bits generator (false ∷ multiple quotient)
 
 -- `rest` is a remainder of `bits`: `rest` has sixteen bits, one fewer than the generator, and
 -- `bits` are the sum, without carries, of a multiple of the generator and `rest`.
@@ -19,7 +19,7 @@ pub record IsRemainder (bits rest : List Bool) : Type 0 where
   pub short : length rest ≡ 16
   pub multiple_added :
       (quotient : List Bool)
-      × (bits ≡ plus_word (multiple quotient) (replicate (length quotient) false ++ rest))
+      × (bits ≡ plus_bits (multiple quotient) (replicate (length quotient) false ++ rest))
 
 -- The long division finds a remainder.
 abbrev pub DivisionFindsRemainder : Type 0

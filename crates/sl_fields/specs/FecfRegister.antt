@@ -9,7 +9,8 @@ abbrev pub register_number : Register → ℕ
 register_number r = r.high * 256 + r.low
 
 -- The register `old` becomes `new` by taking in these octets. For each message: where `old` holds
--- the field of the message, `new` holds the field of the message with these octets after it.
+-- the field of the message, `new` holds the field of the message with these octets after it. A
+-- register of zeros holds the field of the message FF FF.
 abbrev pub TakesIn : Register → List ℕ → Register → Type 0
 TakesIn old octets new =
     (before : List ℕ)

@@ -1,8 +1,9 @@
 //! The frame error control field: computed, checked, and cut off the end of a frame.
 //!
-//! The field is the remainder of a division, whose register holds sixteen bits. Each octet of the
-//! message adds a word to the remainder. The word depends on the value of the octet and on the
-//! number of octets that follow. All sums are without carries.
+//! The field is the remainder of a division, whose register holds sixteen bits. The upper octet of
+//! the register plus an octet of the message selects a word in a table: the remainder of the sum's
+//! eight bits and sixteen zeros. This word, plus the lower octet moved up by an octet, is the new
+//! register. All sums are without carries.
 //!
 //! The octets of a short message are taken one by one. Those of a longer one are first added to
 //! later octets of the message, until sixteen with the same remainder are left.
@@ -18,7 +19,8 @@ use crate::folds::folded;
 use crate::words::WORDS;
 use byteorder::{BigEndian, ByteOrder};
 
-// From this many octets on it takes longer to go octet by octet than to fold them first.
+// From this many octets on it takes longer to go octet by octet than to fold them first. `folded`
+// needs 16 or more. The 22 places of the folds are another number.
 const LEAST_FOLDED: usize = 22;
 
 /// The frame error control field (CCSDS 132.0-B and 232.0-B) that follows these octets in a frame.
@@ -37,15 +39,15 @@ pub fn fecf(octets: &[u8]) -> u16
         };
         return number(after_octets(preset, octets));
     }
-    // This is the same: `folded` takes in `84 CF` before the octets, which turn a register of zeros
-    // into the preset.
+    // This is the same: `folded` puts `84 CF` before the octets, which turn zeros into the preset.
+    // For `TakesIn`, zeros are the register after the message `FF FF`.
     let zeros = Register { high: 0, low: 0 };
     number(after_octets(zeros, &folded(octets).to_array()))
 }
 
 /// Whether the octets end with their frame error control field (CCSDS 132.0-B and 232.0-B): the
 /// last two octets, the most significant first, are the field of the octets before them. False for
-/// fewer than three octets.
+/// fewer than three octets, where there is nothing that a field covers.
 pub fn fecf_good(octets: &[u8]) -> bool
     ensures { result ≡ fecf_is_good octets.now }
 {

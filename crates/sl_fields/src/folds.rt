@@ -4,8 +4,8 @@
 //! The generator is x^16 + x^12 + x^5 + 1, and all sums are without carries, so a square is the sum
 //! of the squares. Thus x^16 has the remainder of x^12 + x^5 + 1, x^32 that of x^24 + x^10 + 1, and
 //! so on. An octet is eight bits: where it is added to the octets 4, 11 and 16 places later, a zero
-//! may stand in its own place. The same holds for 8, 22 and 32 places, and for 16, 44 and 64. All
-//! folds here stand on this, which is the law `runs_may_move`.
+//! may stand in its own place. The same holds for 8, 22 and 32 places, and for 16, 44 and 64. The
+//! law `runs_may_move` says this. The proofs of the folds use the lemma under it, `part-recurs`.
 ghost use Rattle.std.specs.Prelude.{◌≡◌, ◌≤◌, ◌++◌, length, take, drop};
 ghost use Rattle.sl_fields.specs.Fecf.{fecf_of};
 ghost use Rattle.sl_fields.specs.FecfFolds.{part_of, first_two_of};
@@ -26,6 +26,8 @@ pub(crate) fn folded(octets: &[u8]) -> u8x16
 // Four slices with the remainder of all: each slice is added to the octets 16, 44 and 64 places
 // later. So a sum takes in the last sum and the one four slices before. Since 44 = 2 * 16 + 12, it
 // also takes in the last twelve octets of the one three slices before, and then four of the next.
+// A sum is a slice with all that was added to it. `oldest` is four slices before the next one,
+// `older` three, `newer` two, and `newest` one.
 #[inline(always)]
 fn four_of_all(octets: &[u8]) -> (u8x16, u8x16, u8x16, u8x16)
     requires { 16 ≤ length octets.now }
@@ -62,6 +64,8 @@ fn four_of_all(octets: &[u8]) -> (u8x16, u8x16, u8x16, u8x16)
 // The octets before the whole slices, of which the last ends with the message: at the end of two
 // slices, behind zeros and the octets 84 CF. Zeros leave a register of zeros as it is, and 84 CF
 // turn it into the preset.
+// There are `begin` of them, at most 15, so 17 at most with 84 CF: too many for one slice. `padded`
+// has sixteen octets of the message behind 84 CF, and the two slices end after the first `begin`.
 #[inline(always)]
 fn first_two(octets: &[u8]) -> (u8x16, u8x16)
     requires { 16 ≤ length octets.now }
@@ -96,6 +100,8 @@ fn two_of_four(first: u8x16, second: u8x16, third: u8x16, fourth: u8x16) -> (u8x
 
 // One slice with the remainder of these two: the octets of the first are added to those 4, 11 and
 // 16 places later, from the front on.
+// What moved 4 places moves on, to 8 and 12: `from_12`, then `from_8`, do all three. 4 then 11 and
+// 11 then 4 are both 15 and cancel, so `from_5` takes `first` as it came.
 #[inline(always)]
 fn one_of_two(first: u8x16, second: u8x16) -> u8x16
     ensures { part_of 0 result ≡ part_of 0 (first ++ second) }
@@ -105,6 +111,9 @@ fn one_of_two(first: u8x16, second: u8x16) -> u8x16
     let first = four_later ^ from_8(zeros, four_later) ^ from_5(zeros, first);
     second ^ first ^ from_5(first, zeros) ^ from_12(first, zeros)
 }
+
+// `from_n(a, b)`, added where `b` stands, moves octets 16 - n places: `from_12` 4, `from_8` 8,
+// `from_5` 11. Added a slice later, `from_10` moves them 22 places, and two later, `from_4` 44.
 
 // Sixteen of these octets, from the fifth on.
 #[inline(always)]

@@ -1,4 +1,5 @@
--- Frame error control fields that are known from outside sources. A wrong definition would fail these facts.
+-- Frame error control fields that the definition has to give: those of the table in docs/tm.md, and those of two frames
+-- of this project. A wrong definition would fail these facts.
 use Rattle.std.proofs.Common.{◌≡◌, true, false, [], ◌∷◌, codes, replicate, refl}
 use Rattle.sl_fields.specs.Fecf.{fecf_of, fecf_is_good, register_of}
 use Rattle.sl_fields.specs.FecfWords.{word_of}
@@ -9,6 +10,7 @@ pub record AreVectors : Type 0 where
   pub three_zeros : fecf_of (0 ∷ 0 ∷ 0 ∷ []) ≡ 0xCC9C
   pub four_octets : fecf_of (0xAB ∷ 0xCD ∷ 0xEF ∷ 0x01 ∷ []) ≡ 0x04A2
   pub digits : fecf_of (codes "123456789") ≡ 0x29B1
+  -- this project's own: an Unlock command, and a TM frame, each without its field
   pub unlock : fecf_of (0x30 ∷ 0x01 ∷ 0x00 ∷ 0x07 ∷ 0x00 ∷ 0x00 ∷ []) ≡ 0x0E5D
   pub frame :
       fecf_of (0x00 ∷ 0x10 ∷ 0x00 ∷ 0x00 ∷ 0x18 ∷ 0x00

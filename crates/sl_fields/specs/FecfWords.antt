@@ -5,15 +5,12 @@ use Rattle.sl_fields.specs.Field.{number_of}
 use Rattle.sl_fields.specs.Fecf.{octet_bits, bits_number, remainder}
 
 -- The word of an octet, where `later` more octets come after the octet: the remainder, without
--- preset, of the octet's eight bits, eight zeros for each later octet, and sixteen zeros.
+-- preset, of the octet's eight bits, eight zeros for each later octet, and sixteen zeros. It is the
+-- `part_of` (FecfFolds) of this octet alone.
 unfoldable pub word_of : ℕ → ℕ → ℕ
 word_of later octet = bits_number (remainder (octet_bits octet ++ replicate (8 * later + 16) false))
-
--- the words of the octets 0 to 255, where `later` more octets come after the octet
-abbrev pub words_of : ℕ → List ℕ
-words_of later = map (word_of later) (range_with_len 0 256)
 
 -- The table has the words of the octets 0 to 255, in this order, where they end a message. Each
 -- word is two octets, the most significant first.
 abbrev pub AreWords : List (List ℕ) → Type 0
-AreWords table = map number_of table ≡ words_of 0
+AreWords table = map number_of table ≡ map (word_of 0) (range_with_len 0 256)

@@ -1,5 +1,6 @@
 -- Whether a managed number is outside its bounds. Contracts of `sl_tmframe`, `sl_tcframe` and
--- `sl_link` cite this file. No contract of this crate does.
+-- `sl_link` cite this file. No contract of this crate does. Those of `TmShape::new` and
+-- `TcShape::new` have the bounds of frame lengths.
 use Rattle.std.specs.Prelude.{ℕ, nat_lt, Bool, ◌||◌}
 
 -- whether `n` is below `low` or above `high`

@@ -1,7 +1,8 @@
 //! Why frame lengths are refused.
 use thiserror::Error;
 
-/// Why the frame length that is managed for a physical channel is refused.
+/// Why the frame length that is managed for a physical channel is refused. Returned by
+/// `TmShape::new` of `sl_tmframe` and `TcShape::new` of `sl_tcframe`, which have the bounds.
 #[derive(Clone, Copy, Debug, PartialEq, Eq, Error)]
 pub enum ShapeFault {
     /// The length of TM transfer frames is outside 32 to 2048 octets. Both bounds are this

@@ -11,7 +11,8 @@ use std::marker::Model;
 /// The TM transfer frame primary header of CCSDS 132.0-B, six octets.
 #[derive(Clone, Copy, Debug, PartialEq, Eq)]
 pub struct TmHeader {
-    // The fields in their order. The method of the same name describes each field.
+    // The fields in their order. The method of the same name describes each field. `mc` is the
+    // master channel frame count, `vcc` that of the virtual channel `vc`.
     version: u8,
     spacecraft: u16,
     vc: u8,
@@ -42,7 +43,8 @@ impl Model for TmHeader {
 impl TmHeader {
     /// The header with these fields, or `None` where a field is out of its range. The range of
     /// `version` and `segment` is 0 to 3, of `spacecraft` 0 to 1023, of `vc` 0 to 7, and of `first`
-    /// 0 to 2047. Any `mc` and `vcc` are in range.
+    /// 0 to 2047. Any `mc`, the master channel frame count, and any `vcc`, the virtual channel
+    /// frame count, are in range.
     pub fn new(
         version: u8,
         spacecraft: u16,

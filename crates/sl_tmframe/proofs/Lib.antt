@@ -8,7 +8,7 @@ pub mod PacketFrameLemmas
 pub mod PartLemmas
 -- the first reason to skip a frame, or its one class
 pub mod ReadLemmas
--- known frames, read and written
+-- known frames, read, written and cut
 pub mod TmFrameFacts
 -- a frame read from its octets, part by part
 pub mod TmFrameLemmas

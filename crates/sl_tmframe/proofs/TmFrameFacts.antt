@@ -1,9 +1,10 @@
--- Frames of known octets, read and written. A wrong definition would fail these facts.
-use Rattle.std.proofs.Common.{◌≡◌, ℕ, true, false, arith, List, [], ◌∷◌, ◌++◌, replicate, Option, Some, None, Ok, Err, refl}
+-- Frames of known octets, read, written and cut. A wrong definition would fail these facts.
+use Rattle.std.proofs.Common.{◌≡◌, ℕ, true, false, arith, List, [], ◌∷◌, ◌++◌, replicate, drop, Option, Some, None, Ok, Err, refl}
 use Rattle.sl_fields.specs.Fecf.{fecf_of, register_of}
 use Rattle.sl_tmframe.specs.declared.tm_frame.TmSkip.TheVariants.{Fecf, Version, Spacecraft}
 use Rattle.sl_tmframe.specs.TmFrame.{TmFormat, TmView, DataField, Packets, Idle, Opaque, tm_frame}
 use Rattle.sl_tmframe.specs.PacketFrame.{FitFrame, packet_frame, field_room_of}
+use Rattle.sl_tmframe.specs.TmDelimited.{tm_frames_of, tm_remainder_of}
 
 abbrev format : ℕ → TmFormat
 format len = record { len = len; fecf = false }
@@ -11,29 +12,31 @@ format len = record { len = len; fecf = false }
 abbrev with_error_control : ℕ → TmFormat
 with_error_control len = record { len = len; fecf = true }
 
--- a packet of ten octets and the idle packet that fills up its data field, once whole and once without its last four
--- octets
+-- a data field of 22 octets: a packet of ten octets, and an idle packet of 16 without its last four octets
 abbrev packets : List ℕ
 packets =
     0x00 ∷ 0x01 ∷ 0xC0 ∷ 0x00 ∷ 0x00 ∷ 0x03 ∷ 0xAA ∷ 0xBB ∷ 0xCC ∷ 0xDD
     ∷ 0x07 ∷ 0xFF ∷ 0xC0 ∷ 0x00 ∷ 0x00 ∷ 0x09 ∷ 0 ∷ 0 ∷ 0 ∷ 0 ∷ 0 ∷ 0 ∷ []
 
+-- a data field of 26 octets: the same two packets, both whole
 abbrev field : List ℕ
 field = packets ++ replicate 4 0
 
+-- a primary header with these last two octets, which have the first header pointer
 abbrev header : ℕ → ℕ → List ℕ
 header a b = 0x00 ∷ 0x10 ∷ 0x00 ∷ 0x00 ∷ a ∷ b ∷ []
 
 abbrev shows : Option (List ℕ) → DataField → TmView
 shows control carried = record { vc = 0; mc_count = 0; vc_count = 0; control = control; field = carried }
 
--- a frame with an operational control field, and then the same with an error control field
+-- the octets of an operational control field, and a frame with it
 abbrev clcw : List ℕ
 clcw = 0x01 ∷ 0x00 ∷ 0x28 ∷ 0x05 ∷ []
 
 abbrev controlled : List ℕ
 controlled = 0x00 ∷ 0x11 ∷ 0x00 ∷ 0x00 ∷ 0x18 ∷ 0x00 ∷ packets ++ clcw
 
+-- In `error_control_first` the first octet is another, so that all three reasons to skip hold.
 pub record AreRead : Type 0 where
   pub packet_start : tm_frame (format 32) 1 (header 0x18 0x00 ++ field) ≡ Ok (shows None (Packets (Some 0) field))
   pub no_start : tm_frame (format 32) 1 (header 0x1F 0xFF ++ field) ≡ Ok (shows None (Packets None field))
@@ -46,7 +49,7 @@ pub record AreRead : Type 0 where
   pub control : tm_frame (format 32) 1 controlled ≡ Ok (shows (Some clcw) (Packets (Some 0) packets))
   pub control_before_error_control : tm_frame (with_error_control 34) 1 (controlled ++ 0x79 ∷ 0x7B ∷ []) ≡ Ok (shows (Some clcw) (Packets (Some 0) packets))
   pub wrong_error_control : tm_frame (with_error_control 34) 1 (controlled ++ 0x79 ∷ 0x7A ∷ []) ≡ Err Fecf
-  pub error_control_first : tm_frame (with_error_control 34) 2 (0x40 ∷ controlled ++ 0x79 ∷ []) ≡ Err Fecf
+  pub error_control_first : tm_frame (with_error_control 34) 2 (0x40 ∷ drop 1 (controlled ++ 0x79 ∷ 0x7B ∷ [])) ≡ Err Fecf
   pub version_before_spacecraft : tm_frame (format 32) 2 (0x40 ∷ 0x10 ∷ 0 ∷ 0 ∷ 0x18 ∷ 0 ∷ field) ≡ Err Version
   pub spacecraft : tm_frame (format 32) 2 (header 0x18 0x00 ++ field) ≡ Err Spacecraft
 
@@ -85,6 +88,13 @@ frames_are_written = record {
   room = refl;
   guarded_room = refl;
 }
+
+pub record AreDelimited : Type 0 where
+  pub frames : tm_frames_of 32 (controlled ++ header 0x18 0x00 ++ field ++ 0x00 ∷ 0x10 ∷ []) ≡ controlled ∷ (header 0x18 0x00 ++ field) ∷ []
+  pub remainder : tm_remainder_of 32 (controlled ++ header 0x18 0x00 ++ field ++ 0x00 ∷ 0x10 ∷ []) ≡ 0x00 ∷ 0x10 ∷ []
+
+pub frames_are_delimited : AreDelimited
+frames_are_delimited = record { frames = refl; remainder = refl }
 
 -- a frame can be made from these values
 pub fits : FitFrame (with_error_control 34) 1 0 0 0 (Some 0) field

@@ -24,7 +24,6 @@ either_le false n = omega arith
 
 pub has_parts : (format : TmFormat) (frame : List ℕ) → 12 ≤ format.len → length frame ≡ format.len → ArePartsOf format frame (tm_parts_of format frame)
 has_parts format frame room whole =
-    let f : ℕ = field_len format frame in
     let control : control_len frame ≤ 4 = either_le (tm_header_of frame).control 4 in
     let fecf : fecf_len format.fecf ≤ 2 = fecf_len_le format.fecf in
     let field : field_len format frame ≡ length frame - 6 - control_len frame - fecf_len format.fecf = refl in

@@ -6,46 +6,48 @@ use Rattle.sl_fields.specs.TmHeader.{TmFields}
 use Rattle.sl_fields.proofs.FecfLemmas.{fecf_len_le}
 use Rattle.sl_tmframe.specs.TmFrame.{TmFormat, TmView, DataField, tm_header_of, class_of, view_of, skip_reason, read_as, tm_frame}
 
--- The data field of octets that end with `word` octets and then `last` octets, after the first six: the octets after
--- the first six without both.
-field_lies : (frame covered : List ℕ) (last word : ℕ) → covered ≡ take (length (drop 6 frame) - last) (drop 6 frame)
-    → take (length covered - word) covered ≡ take (length frame - 6 - word - last) (drop 6 frame)
-field_lies frame covered last word is_covered =
+-- In the lemmas on where parts lie, a frame ends with a frame error control field of `fecf_size` octets. `covered` are
+-- the octets between it and the primary header, and end with an operational control field of `control_size` octets.
+
+-- the data field, taken from `covered` and from the frame
+field_lies : (frame covered : List ℕ) (fecf_size control_size : ℕ) → covered ≡ take (length (drop 6 frame) - fecf_size) (drop 6 frame)
+    → take (length covered - control_size) covered ≡ take (length frame - 6 - control_size - fecf_size) (drop 6 frame)
+field_lies frame covered fecf_size control_size is_covered =
     let behind = length-drop 6 frame in
-    let long : length covered ≡ length (drop 6 frame) - last = ap length is_covered ∙ length-take-le (length (drop 6 frame) - last) (drop 6 frame) (omega arith) in
-    let same : length covered - word ≡ length frame - 6 - word - last = omega arith in
-    ap (take (length covered - word)) is_covered ∙ take-take (length covered - word) (length (drop 6 frame) - last) (drop 6 frame) (omega arith)
+    let long : length covered ≡ length (drop 6 frame) - fecf_size = ap length is_covered ∙ length-take-le (length (drop 6 frame) - fecf_size) (drop 6 frame) (omega arith) in
+    let same : length covered - control_size ≡ length frame - 6 - control_size - fecf_size = omega arith in
+    ap (take (length covered - control_size)) is_covered ∙ take-take (length covered - control_size) (length (drop 6 frame) - fecf_size) (drop 6 frame) (omega arith)
     ∙ ap (λ n. take n (drop 6 frame)) same
 
--- The operational control field: the last `word` octets of those before the last `last`.
-word_lies : (frame covered : List ℕ) (last word : ℕ) → 6 + word + last ≤ length frame → covered ≡ take (length (drop 6 frame) - last) (drop 6 frame)
-    → drop (length covered - word) covered ≡ take word (drop (6 + (length frame - 6 - word - last)) frame)
-word_lies frame covered last word room is_covered =
+-- the operational control field, taken from `covered` and from the frame
+control_octets_lie : (frame covered : List ℕ) (fecf_size control_size : ℕ) → 6 + control_size + fecf_size ≤ length frame → covered ≡ take (length (drop 6 frame) - fecf_size) (drop 6 frame)
+    → drop (length covered - control_size) covered ≡ take control_size (drop (6 + (length frame - 6 - control_size - fecf_size)) frame)
+control_octets_lie frame covered fecf_size control_size long_enough is_covered =
     let behind = length-drop 6 frame in
-    let long : length covered ≡ length (drop 6 frame) - last = ap length is_covered ∙ length-take-le (length (drop 6 frame) - last) (drop 6 frame) (omega arith) in
-    let from : length covered - word ≡ length frame - 6 - word - last = omega arith in
-    let whole : length (drop 6 frame) - last ≡ length frame - 6 - word - last + word = omega arith in
-    ap (λ n. drop n covered) from ∙ ap (drop (length frame - 6 - word - last)) (is_covered ∙ ap (λ n. take n (drop 6 frame)) whole)
-    ∙ drop-take (length frame - 6 - word - last) word (drop 6 frame) ∙ ap (take word) (drop-drop (length frame - 6 - word - last) 6 frame)
+    let long : length covered ≡ length (drop 6 frame) - fecf_size = ap length is_covered ∙ length-take-le (length (drop 6 frame) - fecf_size) (drop 6 frame) (omega arith) in
+    let from : length covered - control_size ≡ length frame - 6 - control_size - fecf_size = omega arith in
+    let whole : length (drop 6 frame) - fecf_size ≡ length frame - 6 - control_size - fecf_size + control_size = omega arith in
+    ap (λ n. drop n covered) from ∙ ap (drop (length frame - 6 - control_size - fecf_size)) (is_covered ∙ ap (λ n. take n (drop 6 frame)) whole)
+    ∙ drop-take (length frame - 6 - control_size - fecf_size) control_size (drop 6 frame) ∙ ap (take control_size) (drop-drop (length frame - 6 - control_size - fecf_size) 6 frame)
 
--- the operational control field, by its flag
-control_lies : (flag : Bool) (frame covered : List ℕ) (last : ℕ) → 10 + last ≤ length frame → covered ≡ take (length (drop 6 frame) - last) (drop 6 frame)
+-- the operational control field, which has four octets where the header's flag is set, and is missing otherwise
+control_lies : (flag : Bool) (frame covered : List ℕ) (fecf_size : ℕ) → 10 + fecf_size ≤ length frame → covered ≡ take (length (drop 6 frame) - fecf_size) (drop 6 frame)
     → (if flag then Some (drop (length covered - 4) covered) else None)
-    ≡ (if flag then Some (take (if flag then 4 else 0) (drop (6 + (length frame - 6 - (if flag then 4 else 0) - last)) frame)) else None)
-control_lies true frame covered last room is_covered = ap Some (word_lies frame covered last 4 (omega arith) is_covered)
-control_lies false frame covered last room is_covered = refl
+    ≡ (if flag then Some (take (if flag then 4 else 0) (drop (6 + (length frame - 6 - (if flag then 4 else 0) - fecf_size)) frame)) else None)
+control_lies true frame covered fecf_size long_enough is_covered = ap Some (control_octets_lie frame covered fecf_size 4 (omega arith) is_covered)
+control_lies false frame covered fecf_size long_enough is_covered = refl
 
 -- the view of a frame under this header
 abbrev view_with : TmFormat → List ℕ → TmFields → TmView
 view_with format frame h =
-    let word : ℕ = if h.control then 4 else 0 in
-    let room : ℕ = length frame - 6 - word - fecf_len format.fecf in
+    let control_size : ℕ = if h.control then 4 else 0 in
+    let field_size : ℕ = length frame - 6 - control_size - fecf_len format.fecf in
     record {
       vc = h.vc;
       mc_count = h.mc;
       vc_count = h.vcc;
-      control = if h.control then Some (take word (drop (6 + room) frame)) else None;
-      field = class_of h (take room (drop 6 frame));
+      control = if h.control then Some (take control_size (drop (6 + field_size) frame)) else None;
+      field = class_of h (take field_size (drop 6 frame));
     }
 
 -- the parts that the code takes give the frame's view
@@ -58,9 +60,9 @@ pub read_parts : (format : TmFormat) (spacecraft : ℕ) (frame covered field : L
     → control ≡ (if h.control then Some (drop (length covered - 4) covered) else None)
     → class ≡ class_of h field
     → Ok (record { vc = h.vc; mc_count = h.mc; vc_count = h.vcc; control = control; field = class }) ≡ tm_frame format spacecraft frame
-read_parts format spacecraft frame covered field h control class room kept header covered_by field_by control_by class_by =
-    let last : fecf_len format.fecf ≤ 2 = fecf_len_le format.fecf in
+read_parts format spacecraft frame covered field h control class long_enough kept header covered_by field_by control_by class_by =
+    let fecf_fits : fecf_len format.fecf ≤ 2 = fecf_len_le format.fecf in
     let carried = class_by ∙ ap (class_of h) (field_by ∙ field_lies frame covered (fecf_len format.fecf) (if h.control then 4 else 0) covered_by) in
-    let word = control_by ∙ control_lies h.control frame covered (fecf_len format.fecf) (omega arith) covered_by in
-    let shown : record { vc = h.vc; mc_count = h.mc; vc_count = h.vcc; control = control; field = class } ≡ view_with format frame h = rw (carried, word) refl in
+    let operational = control_by ∙ control_lies h.control frame covered (fecf_len format.fecf) (omega arith) covered_by in
+    let shown : record { vc = h.vc; mc_count = h.mc; vc_count = h.vcc; control = control; field = class } ≡ view_with format frame h = rw (carried, operational) refl in
     ap Ok (shown ∙ ap (view_with format frame) header) ∙ ap (λ reason. read_as reason (view_of format frame)) (sym kept)

@@ -4,7 +4,7 @@ ghost use Rattle.sl_packet.specs.Front.{front, is_foreign};
 ghost use Rattle.sl_packet.specs.Packets.{packets_of, rest_of};
 ghost use Rattle.sl_packet.specs.Stopping.{HandsOver};
 ghost use Rattle.sl_tmframe.specs.TmField.{data_field};
-ghost use Rattle.sl_tmframe.specs.TmFrame.{IsInField, Packets, longest_field};
+ghost use Rattle.sl_tmframe.specs.TmFrame.{IsFieldInRange, Packets, longest_field};
 ghost use Rattle.sl_tmflow.specs.Anomaly.{gap_after};
 ghost use Rattle.sl_tmflow.specs.Channel.{foreign_in, held_after, incomplete_in, is_after};
 ghost use Rattle.sl_tmflow.specs.Channel.{kept_octets, kept_of, lost_by, lost_of, new_channel};
@@ -241,7 +241,7 @@ impl Channel {
         sink: &mut S,
     ) -> Result<TmStep, FlowFault>
         requires vc { vc ≤ 7 }
-        requires inside { IsInField (data_field field.now) }
+        requires inside { IsFieldInRange (data_field field.now) }
         // A packet that is incomplete at the end of the field is kept, and memory is refused only
         // where there is such a packet.
         ensures count { self.new.state.count ≡ self.old.state.count }

@@ -203,15 +203,15 @@ abbrev pub longest_field : ℕ
 longest_field = 2042
 
 -- a data field of packets is no longer than that, and the first packet start lies in it
-abbrev pub IsInField : DataField → Type 0
-IsInField (Packets first octets) = IfSome first (λ start. start < length octets) × (length octets ≤ longest_field)
-IsInField Idle = ⊤
-IsInField Opaque = ⊤
+abbrev pub IsFieldInRange : DataField → Type 0
+IsFieldInRange (Packets first octets) = IfSome first (λ start. start < length octets) × (length octets ≤ longest_field)
+IsFieldInRange Idle = ⊤
+IsFieldInRange Opaque = ⊤
 
 -- the virtual channel is 0 to 7, and the data field is in range
 pub record IsInRange (view : TmView) : Type 0 where
   pub vc : view.vc ≤ 7
-  pub field : IsInField view.field
+  pub field : IsFieldInRange view.field
 
 -- ---- laws
 

@@ -59,9 +59,9 @@ HasTaken old chunk answer new = new ≡ after_call old chunk (lent_octets answer
 
 -- The answer and what is left of the chunk: a frame is lent, or the chunk was used up first. Only
 -- contracts of private functions cite this.
-abbrev pub Answers : TmFraming → List ℕ → Option (Bor (List ℕ)) → List ℕ → Type 0
-Answers old chunk None left = UsesUpChunk old chunk left
-Answers old chunk (Some frame) left = YieldsFrame old chunk frame.now left
+abbrev pub YieldsOrUsesUp : TmFraming → List ℕ → Option (Bor (List ℕ)) → List ℕ → Type 0
+YieldsOrUsesUp old chunk None left = UsesUpChunk old chunk left
+YieldsOrUsesUp old chunk (Some frame) left = YieldsFrame old chunk frame.now left
 
 -- ---- calls with chunks, one after another
 

@@ -2,7 +2,7 @@
 ghost use Rattle.std.specs.Prelude.{◌≡◌, ◌-◌, ◌<◌, ◌≤◌, length, take, drop, if◌then◌else◌, Some};
 ghost use Rattle.std.specs.Prelude.{None};
 ghost use Rattle.sl_tmframe.specs.TmFrame.{tm_header_of, class_of, longest_field, skip_reason};
-ghost use Rattle.sl_tmframe.specs.TmFrame.{IsInField};
+ghost use Rattle.sl_tmframe.specs.TmFrame.{IsFieldInRange};
 ghost use Rattle.sl_tmframe.specs.TmField.{data_field};
 
 use crate::tm_shape::TmShape;
@@ -86,7 +86,7 @@ impl<'a> TmFrame<'a> {
         Ok(TmFrame {
             header,
             control,
-            field: data_field_of(&header, field),
+            field: content_under(&header, field),
         })
     }
 
@@ -126,7 +126,7 @@ impl<'a> TmFrame<'a> {
     /// specs/TmFrame.antt.
     pub fn field(&self) -> TmField<'a>
         ensures value { data_field result ≡ self.now.field }
-        ensures inside { IsInField (data_field result) }
+        ensures inside { IsFieldInRange (data_field result) }
     {
         self.field
     }
@@ -182,10 +182,10 @@ fn split_control<'a>(header: &TmHeader, behind: &'a [u8]) -> (&'a [u8], Option<[
 
 // The content of a data field, in a frame with this header.
 #[inline(always)]
-fn data_field_of<'a>(header: &TmHeader, field: &'a [u8]) -> TmField<'a>
+fn content_under<'a>(header: &TmHeader, field: &'a [u8]) -> TmField<'a>
     requires { length field.now ≤ longest_field }
     ensures class { data_field result ≡ class_of header.now field.now }
-    ensures inside { IsInField (data_field result) }
+    ensures inside { IsFieldInRange (data_field result) }
 {
     if header.secondary() || header.sync() {
         return TmField::Opaque;

@@ -34,8 +34,8 @@ impl Model for TmFramer {
 }
 
 impl TmFramer {
-    ghost use Rattle.sl_tmframe.specs.TmFraming.{Answers, HasTaken, UsesUpChunk, YieldsFrame};
-    ghost use Rattle.sl_tmframe.specs.TmFraming.{at_start};
+    ghost use Rattle.sl_tmframe.specs.TmFraming.{HasTaken, UsesUpChunk, YieldsFrame};
+    ghost use Rattle.sl_tmframe.specs.TmFraming.{YieldsOrUsesUp, at_start};
     ghost use Rattle.sl_tmframe.specs.contracts.tm_framer.TmFramer.{the_row};
 
     /// A framer for frames of this format that has taken no octet yet.
@@ -123,7 +123,7 @@ impl TmFramer {
     #[cold]
     fn next_across(&mut self, piece: &mut &[u8]) -> Option<&[u8]>
         ensures* taken { sem 𝓛 (Rests the_row self.entry (HasTaken self.old piece.old.now result)) }
-        ensures answer { Answers self.old piece.old.now result piece.new.now }
+        ensures answer { YieldsOrUsesUp self.old piece.old.now result piece.new.now }
     {
         self.next(piece)
     }

@@ -14,7 +14,7 @@ returns c =
     let least = c.shape.invariant.least in
     let format = c.shape.view_is in
     let len = ap (λ (f : TmFormat). f.len) format in
-    read_parts c.args.shape.now c.args.spacecraft frame covered.result.now parts.result.0.now header.result.0 parts.result.1 (data_field c.data_field_of.result)
+    read_parts c.args.shape.now c.args.spacecraft frame covered.result.now parts.result.0.now header.result.0 parts.result.1 (data_field c.content_under.result)
     (omega arith)
     (sym c.in_default.ensures)
     header.ensures.header
@@ -22,4 +22,4 @@ returns c =
     ∙ ap (λ (f : TmFormat). take (length (drop 6 frame) - fecf_len f.fecf) (drop 6 frame)) format)
     parts.ensures.field
     parts.ensures.control
-    c.data_field_of.ensures.class
+    c.content_under.ensures.class

@@ -1,4 +1,5 @@
--- How a recording that comes in chunks is delimited into TM frames.
+-- How a recording that comes in chunks is delimited into TM frames. What a `TmFramer` stands for is
+-- here too, and not in a file of its own.
 use Rattle.std.specs.Prelude.{◌≡◌, ℕ, ◌<◌, ◌≤◌, List, [], ◌∷◌, ◌++◌, length, take, Option, None, Some}
 use Rattle.std.specs.Borrow.{Bor}
 use Rattle.std.specs.List.{concat}
@@ -6,8 +7,8 @@ use Rattle.sl_fields.specs.Field.{IsOctets}
 use Rattle.sl_tmframe.specs.TmDelimited.{IsTmDelimited, tm_frames_of}
 use Rattle.sl_tmframe.specs.declared.tm_framer.TmFramer.TheInside.{Inside}
 
--- the state of a framer: the length of each frame, and the octets that were taken after the last
--- frame
+-- The state of a framer: the length of each frame, and the octets that are held, which were taken
+-- after the last frame. These are called `rest`; at the end of a recording they are its remainder.
 pub record TmFraming : Type 0 where
   pub len : ℕ
   pub rest : List ℕ
@@ -28,7 +29,7 @@ pub record IsTmFramer (f : Inside) : Type 0 where
   pub short : f.held < f.len
   pub room : length f.buffer.items ≡ 2048
 
--- ---- one call, with a chunk
+-- ---- one call, with a chunk or what is left of one (`piece` in code)
 
 -- The frame has the octets that were taken after the last frame, and then octets from the front of
 -- the chunk. The other octets of the chunk are left.
@@ -58,7 +59,7 @@ abbrev pub HasTaken : TmFraming → List ℕ → Option (Bor (List ℕ)) → TmF
 HasTaken old chunk answer new = new ≡ after_call old chunk (lent_octets answer)
 
 -- The answer and what is left of the chunk: a frame is lent, or the chunk was used up first. Only
--- contracts of private functions cite this.
+-- the contract of a private function cites this.
 abbrev pub YieldsOrUsesUp : TmFraming → List ℕ → Option (Bor (List ℕ)) → List ℕ → Type 0
 YieldsOrUsesUp old chunk None left = UsesUpChunk old chunk left
 YieldsOrUsesUp old chunk (Some frame) left = YieldsFrame old chunk frame.now left
@@ -87,7 +88,7 @@ ChunksAreDelimited =
     → IsTmDelimited len (concat chunks) frames new.rest
 
 -- To octets that are too few for a frame, some octets can be added at the end so that all of them
--- together are exactly one frame.
+-- together are exactly one frame. So before the end no framer can tell that no frame comes.
 abbrev pub ShortBecomesFrame : Type 0
 ShortBecomesFrame =
     (len : ℕ) (octets : List ℕ) → length octets < len

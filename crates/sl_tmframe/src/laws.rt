@@ -41,7 +41,8 @@ pub fn tm_recordings_are_delimited()
 /// taken after the last frame are the remainder.
 ///
 /// A remainder may be the front of a frame: to octets that are too few for a frame, some octets can
-/// be added at the end so that all of them together are exactly one frame.
+/// be added at the end so that all of them together are exactly one frame (clause `short`). So
+/// until the recording ends no framer can tell that no frame comes.
 pub fn tm_chunks_are_delimited()
     ensures any { AnyChunksAreTaken }
     ensures delimited { ChunksAreDelimited }

@@ -18,8 +18,8 @@ pub struct TmFramer {
     // The number of octets that were taken after the last frame, fewer than a frame has.
     held: usize,
     // The octets that were taken after the last frame lie at the front. The array has 2048 octets
-    // at all times: later octets overwrite earlier ones, and nothing is cleared between frames. (In
-    // `TcFramer` each frame has a length of its own. The array's length is that of the lent frame.)
+    // at all times: later octets overwrite earlier ones, and nothing is cleared between frames. A
+    // plain array would do too. An `ArrayVec` is taken since `TcFramer` has one, of varying length.
     buffer: ArrayVec<u8, 2048>,
 }
 
@@ -119,7 +119,8 @@ impl TmFramer {
     }
 
     // As `next`, out of line: for a frame that lies in several pieces, and for a piece that ends
-    // before a frame is complete. The clause `answer` is `frame` and `used_up` in one.
+    // before a frame is complete. The clause `answer` is `frame` and `used_up` in one: `next_from`
+    // returns the answer as it is, so each of its two clauses is one case of this one.
     #[cold]
     fn next_across(&mut self, piece: &mut &[u8]) -> Option<&[u8]>
         ensures* taken { sem 𝓛 (Rests the_row self.entry (HasTaken self.old piece.old.now result)) }

@@ -15,11 +15,11 @@ abbrev pub pointer_value : Option ℕ → ℕ
 pointer_value None = 2047
 pointer_value (Some first) = first
 
--- The fields of the frame's header, which is the `packets_header` of `sl_fields`, each with its
--- width in bits before its value: version 0, the spacecraft, the virtual channel, no operational
--- control field, the master and the virtual channel frame count, no secondary header,
--- synchronisation flag 0, packet order flag 0, segment length identifier 3, and the first header
--- pointer.
+-- The fields of the frame's header, each with its width in bits before its value: version 0, the
+-- spacecraft, the virtual channel, no operational control field, the master (`mc`) and the virtual
+-- channel frame count (`vcc`), no secondary header, synchronisation flag 0, packet order flag 0,
+-- segment length identifier 3, and the first header pointer. These are the values of
+-- `packets_header` in `sl_fields`, spelt out so that this file alone says which bits come first.
 abbrev pub frame_fields : ℕ → ℕ → ℕ → ℕ → Option ℕ → List (ℕ × ℕ)
 frame_fields spacecraft vc mc vcc first =
     (2, 0) ∷ (10, spacecraft) ∷ (3, vc) ∷ (1, 0) ∷ (8, mc) ∷ (8, vcc) ∷ (1, 0) ∷ (1, 0) ∷ (1, 0) ∷ (2, 3)

@@ -1,4 +1,4 @@
--- What a `TmField` stands for, wherever its octets lie in memory.
+-- What a `TmField` stands for, wherever its octets lie in memory: the content of a data field.
 use Rattle.sl_tmframe.specs.TmFrame.{DataField}
 use Rattle.sl_tmframe.specs.TmFrame as spec
 use Rattle.sl_tmframe.specs.declared.tm_frame.TmField.{TmField}

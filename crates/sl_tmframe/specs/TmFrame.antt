@@ -18,7 +18,7 @@ pub record TmFormat : Type 0 where
 
 -- ---- the parts
 
--- the octets of each part of a frame
+-- the octets of each part of a frame; `field` is the data field
 pub record TmParts : Type 0 where
   pub header : List ℕ
   pub field : List ℕ
@@ -78,9 +78,10 @@ order_of Spacecraft = 3
 
 -- ---- what a frame carries
 
--- The content of a data field. `Packets`: octets of packets; the first packet that starts in the
--- field, if one does, starts at the offset `first`. `Idle`: only idle data. `Opaque`: a data field
--- that isn't read.
+-- The content of a data field, by the class of the frame. `Packets`: octets of packets; the first
+-- packet that starts in the field, if one does, starts at the offset `first`. `Idle`: only idle
+-- data. `Opaque`: a data field that isn't read. In code this is a `TmField`. The `field` of a
+-- `TmView` is such a content; elsewhere `field` is the octets of the data field.
 pub data DataField : Type 0 where
   Packets : (first : Option ℕ) (octets : List ℕ) → DataField
   Idle : DataField
@@ -164,7 +165,7 @@ is_opaque header field =
     (header.secondary || header.sync)
     || (not (header.first == 2046) && not (header.first == 2047) && not (nat_lt header.first (length field)))
 
--- the class of a data field, in a frame with this header
+-- the content of a data field, by its class in a frame with this header
 abbrev pub class_of : TmFields → List ℕ → DataField
 class_of header field =
     if is_opaque header field then Opaque

@@ -4,7 +4,7 @@ use Rattle.sl_tmframe.specs.TmFrame.{TmView, IsInRange}
 use Rattle.sl_tmframe.specs.TmField.{data_field}
 use Rattle.sl_tmframe.specs.declared.tm_frame.TmFrame.TheInside.{Inside}
 
--- the view, by the fields of a `TmFrame`
+-- the view, by the fields of a `TmFrame`; `view_of` is the view by a frame's octets
 abbrev pub inside_view : Inside → TmView
 inside_view f =
     record {

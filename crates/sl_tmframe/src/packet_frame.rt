@@ -17,9 +17,9 @@ const NONE_STARTS: u16 = 2047;
 /// - `shape` is the frame's format: its length, and whether it has a frame error control field.
 /// - `spacecraft` is the spacecraft identifier, 0 to 1023.
 /// - `vc` is the virtual channel identifier, 0 to 7.
-/// - `mc` is the master channel frame count, 0 to 255.
+/// - `mc` is the master channel frame count, 0 to 255, named as in [`TmHeader`].
 /// - `vcc` is the virtual channel frame count, 0 to 255.
-/// - `first` is the first header pointer: the offset in the data field at which the first packet
+/// - `first` is the first packet start: the offset in the data field at which the first packet
 ///   starts, below [`TmShape::room`], or `None` where no packet starts in the data field.
 /// - `octets` is the data field: exactly [`TmShape::room`] octets.
 ///
@@ -64,8 +64,8 @@ pub fn push_tm(
     out.extend_from_slice(&field)
 }
 
-// The primary header of a frame of packets. A packet start is below 2046, since the pointers 2046
-// and 2047 are no offsets.
+// The primary header of a frame of packets. `first` is below 2046, since a data field has at most
+// 2042 octets. So it can't be taken for pointer 2046 or 2047.
 fn frame_header(spacecraft: u16, vc: u8, mc: u8, vcc: u8, first: Option<u16>) -> [u8; 6]
     requires spacecraft { spacecraft ≤ 1023 }
     requires vc { vc ≤ 7 }

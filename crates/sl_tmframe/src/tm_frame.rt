@@ -20,7 +20,9 @@ pub enum TmSkip {
     Spacecraft,
 }
 
-/// The content of a TM transfer frame (CCSDS 132.0-B): what its data field carries.
+/// The content of a TM transfer frame (CCSDS 132.0-B): what its data field carries, which is one of
+/// three classes. The clauses have it as a `DataField` (specs/TmFrame.antt). The bit fields of the
+/// primary header are another thing: they are in [`TmHeader`].
 #[derive(Clone, Copy, Debug, PartialEq, Eq)]
 pub enum TmField<'a> {
     /// Octets of packets. The secondary header flag and the synchronisation flag are 0, and the
@@ -98,14 +100,14 @@ impl<'a> TmFrame<'a> {
         self.header.vc()
     }
 
-    /// The master channel frame count, 0 to 255.
+    /// The master channel frame count, 0 to 255, which is `mc` in the header.
     pub fn mc_count(&self) -> u8
         ensures { result ≡ self.now.mc_count }
     {
         self.header.mc()
     }
 
-    /// The virtual channel frame count, 0 to 255.
+    /// The virtual channel frame count, 0 to 255, which is `vcc` in the header.
     pub fn vc_count(&self) -> u8
         ensures { result ≡ self.now.vc_count }
     {
@@ -180,7 +182,7 @@ fn split_control<'a>(header: &TmHeader, behind: &'a [u8]) -> (&'a [u8], Option<[
     (field, Some(*control))
 }
 
-// The content of a data field, in a frame with this header.
+// The content of a data field with the octets `field`, in a frame with this header.
 #[inline(always)]
 fn content_under<'a>(header: &TmHeader, field: &'a [u8]) -> TmField<'a>
     requires { length field.now ≤ longest_field }

@@ -4,7 +4,7 @@ mod form;
 
 use crate::support::packets::{has, none};
 use crate::support::recordings::{TELEMETRY, TM_FRAME};
-use crate::support::rows::{Stop, passes};
+use crate::support::rows::{Stop, holds, passes};
 use crate::support::sinks::Counts;
 use crate::support::tm::{ended, extractor, held, is_form, step_of};
 use sl_packet::{Delivered, PacketSink};
@@ -167,15 +167,12 @@ fn anomalies_of_a_frame_are_reported(rt: HostRuntime) {
     }
 }
 
-// Whether a packet that lies in its frame is handed over from there.
-fn is_handed_over(alloc: Global) -> Result<bool, Stop> {
-    let mut extractor = extractor(alloc);
+// A packet that lies in its frame is handed over from there.
+#[test]
+fn packets_of_one_frame_take_no_memory(rt: HostRuntime) -> Result<(), Stop> {
+    let mut extractor = extractor(rt.alloc());
     let mut sink = Counts { packets: 0 };
     let ended = ended(&mut extractor, &TM_FRAME, &mut sink)?;
-    Ok(ended == (1, 1) && sink.packets == 1)
-}
-
-#[test]
-fn packets_of_one_frame_take_no_memory(rt: HostRuntime) {
-    passes(&rt, &TM_FRAME, is_handed_over(rt.alloc()));
+    holds(&rt, &TM_FRAME, ended == (1, 1) && sink.packets == 1);
+    Ok(())
 }

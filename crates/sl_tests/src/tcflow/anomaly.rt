@@ -6,7 +6,7 @@ use super::{
 };
 use crate::support::packets::{has, longest, none};
 use crate::support::recordings::{LEAST, LONGER};
-use crate::support::rows::{Stop, passes};
+use crate::support::rows::{Stop, holds, passes};
 use crate::support::tc::{anomalies_of, held, receiver, step_of};
 use sl_packet::Delivered;
 use sl_tcflow::Receiver;
@@ -144,17 +144,15 @@ fn no_series_is_open_from_a_channel_on(rt: HostRuntime) {
     }
 }
 
-// Whether a last segment of one octet makes a series of the greatest length too long.
-fn is_too_long(alloc: Global) -> Result<bool, Stop> {
-    let most = longest(alloc)?;
-    let mut receiver = receiver(alloc, 0)?;
-    let mut delivered = none(alloc);
-    segments_received(alloc, &mut receiver, &most, 0, &mut delivered)?;
-    let is_held = held(&receiver, 0, 0) == (65542, true);
-    Ok(is_held && is_told(&mut receiver, &mut delivered, &TOO_LONG)?)
-}
-
+// A last segment of one octet makes a series of the greatest length too long.
 #[test]
-fn a_series_is_too_long(rt: HostRuntime) {
-    passes(&rt, &TOO_LONG, is_too_long(rt.alloc()));
+fn a_series_is_too_long(rt: HostRuntime) -> Result<(), Stop> {
+    let most = longest(rt.alloc())?;
+    let mut receiver = receiver(rt.alloc(), 0)?;
+    let mut delivered = none(rt.alloc());
+    segments_received(rt.alloc(), &mut receiver, &most, 0, &mut delivered)?;
+    holds(&rt, &65542, held(&receiver, 0, 0) == (65542, true));
+    let is_so = is_told(&mut receiver, &mut delivered, &TOO_LONG)?;
+    holds(&rt, &TOO_LONG, is_so);
+    Ok(())
 }

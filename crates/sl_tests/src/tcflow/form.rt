@@ -1,7 +1,7 @@
 //! The normal form piece by piece.
 use crate::support::packets::{delivered_of, longest};
 use crate::support::recordings::{COMMAND, LEAST};
-use crate::support::rows::{Stop, passes};
+use crate::support::rows::{Stop, holds};
 use crate::support::tc::{is_form, shape};
 use sl_cop::Starts;
 use sl_packet::Delivered;
@@ -60,30 +60,27 @@ fn add_pieces(
     Ok(!pieces.next(form)? && !pieces.next(form)?)
 }
 
-fn are_form(alloc: Global) -> Result<bool, Stop> {
-    let delivered = delivered_of(alloc, &PACKETS)?;
-    let mut pieces = pieces_of(false, 254, &delivered)?;
-    let mut form = Vec::new(alloc);
-    let are_all = add_pieces(alloc, &mut pieces, &LENS, &mut form)?;
-    let channels = (&Starts::all(254), &VcSet::new());
-    Ok(are_all && is_form(alloc, (16, false), channels, &PACKETS, &form)?)
-}
-
 #[test]
-fn pieces_are_the_form(rt: HostRuntime) {
-    passes(&rt, &LENS, are_form(rt.alloc()));
-}
-
-fn is_longest_piece(alloc: Global, len: usize) -> Result<bool, Stop> {
-    let longest = longest(alloc)?;
-    let delivered = delivered_of(alloc, &[(0, &longest)])?;
-    let mut pieces = pieces_of(true, 0, &delivered)?;
-    let mut form = Vec::new(alloc);
-    Ok(add_pieces(alloc, &mut pieces, &[len], &mut form)?)
+fn pieces_are_the_form(rt: HostRuntime) -> Result<(), Stop> {
+    let delivered = delivered_of(rt.alloc(), &PACKETS)?;
+    let mut pieces = pieces_of(false, 254, &delivered)?;
+    let mut form = Vec::new(rt.alloc());
+    let are_all = add_pieces(rt.alloc(), &mut pieces, &LENS, &mut form)?;
+    holds(&rt, &LENS, are_all);
+    let channels = (&Starts::all(254), &VcSet::new());
+    let is_form = is_form(rt.alloc(), (16, false), channels, &PACKETS, &form)?;
+    holds(&rt, &PACKETS, is_form);
+    Ok(())
 }
 
 // A packet of 65,542 octets in frames with room for 8 octets each: the longest piece that there is.
 #[test]
-fn the_longest_piece_has_room(rt: HostRuntime) {
-    passes(&rt, &131_086, is_longest_piece(rt.alloc(), 131_086));
+fn the_longest_piece_has_room(rt: HostRuntime) -> Result<(), Stop> {
+    let longest = longest(rt.alloc())?;
+    let delivered = delivered_of(rt.alloc(), &[(0, &longest)])?;
+    let mut pieces = pieces_of(true, 0, &delivered)?;
+    let mut form = Vec::new(rt.alloc());
+    let is_one = add_pieces(rt.alloc(), &mut pieces, &[131_086], &mut form)?;
+    holds(&rt, &131_086, is_one);
+    Ok(())
 }

@@ -5,7 +5,7 @@ use super::{
 };
 use crate::support::packets::{Packets, are_all, none};
 use crate::support::recordings::{COMMAND, LEAST, LONGER, TC_FRAME};
-use crate::support::rows::{Stop, passes};
+use crate::support::rows::{Stop, holds, passes};
 use crate::support::sinks::Counts;
 use crate::support::tc::{
     clcw, farms, frame, received, receiver, receiver_with, set_of, shape, step_of,
@@ -200,13 +200,6 @@ fn is_so_of_farms(rt: &impl Abort, case: &Case) -> Result<bool, Stop> {
     Ok(farms_report(&farms, words))
 }
 
-#[test]
-fn frames_step_farms(rt: HostRuntime) {
-    for case in &CASES {
-        passes(&rt, &case.0, is_so_of_farms(&rt, case));
-    }
-}
-
 // A frame on virtual channel 0, whether this is without segment headers, and the MAP of the unit.
 type Mapped<'a> = (&'a [u8], bool, u8);
 
@@ -234,21 +227,23 @@ fn steps_name_maps(rt: HostRuntime) {
 }
 
 #[test]
-fn frames_are_received(rt: HostRuntime) {
+fn frames_are_received_and_step_farms(rt: HostRuntime) {
     for case in &CASES {
         passes(&rt, &case.0, is_so(&rt, rt.alloc(), case));
+        passes(&rt, &case.0, is_so_of_farms(&rt, case));
     }
 }
 
-// Whether a packet that lies in its unit is handed over from there.
-fn is_handed_over(alloc: Global) -> Result<bool, Stop> {
-    let mut receiver = receiver(alloc, 0)?;
+// A packet that lies in its unit is handed over from there.
+#[test]
+fn packets_of_one_unit_take_no_memory(rt: HostRuntime) -> Result<(), Stop> {
+    let mut receiver = receiver(rt.alloc(), 0)?;
     let mut sink = Counts { packets: 0 };
     let found = received(&mut receiver, &TC_FRAME, &mut sink)?;
-    Ok(found == (Verdict::Accept, 1, 0) && sink.packets == 1)
-}
-
-#[test]
-fn packets_of_one_unit_take_no_memory(rt: HostRuntime) {
-    passes(&rt, &TC_FRAME, is_handed_over(rt.alloc()));
+    holds(
+        &rt,
+        &TC_FRAME,
+        found == (Verdict::Accept, 1, 0) && sink.packets == 1,
+    );
+    Ok(())
 }

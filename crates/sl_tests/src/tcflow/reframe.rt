@@ -4,8 +4,6 @@ use crate::support::recordings::{COMMAND, LEAST, LONGER, TC_FRAME};
 use crate::support::rows::{Stop, holds, passes};
 use crate::support::tc::{form_of, is_form, received, receiver, shape};
 use sl_cop::Starts;
-use sl_packet::Delivered;
-use sl_tcflow::Receiver;
 use sl_tcframe::VcSet;
 use std::alloc::Global;
 use std::process::Abort;
@@ -130,46 +128,33 @@ fn carry(rt: &impl Abort, frames: &[[u8; 16]], packet: &[u8]) {
     }
 }
 
-// Receives all frames of at most 16 octets.
-fn receive(receiver: &mut Receiver, form: &[u8], delivered: &mut Delivered) -> Result<(), Stop> {
-    for frame in form.chunks(16) {
-        received(receiver, frame, delivered)?;
-    }
-    Ok(())
-}
-
-// Whether a packet is received from them.
+// Whether a packet is received from frames of at most 16 octets.
 fn is_received(alloc: Global, form: &[u8], packet: &[u8]) -> Result<bool, Stop> {
     let mut receiver = receiver(alloc, 0)?;
     let mut again = none(alloc);
-    receive(&mut receiver, form, &mut again)?;
+    for frame in form.chunks(16) {
+        received(&mut receiver, frame, &mut again)?;
+    }
     Ok(has(&again, 0, &[packet]))
-}
-
-fn form_of_longest(alloc: Global, longest: &[u8]) -> Result<Vec<u8>, Stop> {
-    let shape = shape(16, false)?;
-    form_of(
-        alloc,
-        &shape,
-        &Starts::all(0),
-        &VcSet::new(),
-        &[(0, longest)],
-    )
-}
-
-fn longest_is_received(rt: &impl Abort, alloc: Global) -> Result<bool, Stop> {
-    let longest = longest(alloc)?;
-    let form = form_of_longest(alloc, &longest)?;
-    let (frames, last) = form.as_chunks::<16>();
-    carry(rt, frames, &longest);
-    let is_whole = form.len() == 104872 && frames.len() == 6554;
-    let is_ended = last == LAST_OF_LONGEST.as_slice();
-    Ok(is_whole && is_ended && is_received(alloc, &form, &longest)?)
 }
 
 // A longest packet is received from 6,555 segments: the first has flags 1, the last flags 2, and
 // all others flags 0.
 #[test]
-fn a_longest_packet_goes_through_its_frames(rt: HostRuntime) {
-    passes(&rt, &"all frames", longest_is_received(&rt, rt.alloc()));
+fn a_longest_packet_goes_through_its_frames(rt: HostRuntime) -> Result<(), Stop> {
+    let alloc = rt.alloc();
+    let longest = longest(alloc)?;
+    let shape = shape(16, false)?;
+    let packets = [(0, longest.as_slice())];
+    let form = form_of(alloc, &shape, &Starts::all(0), &VcSet::new(), &packets)?;
+    let (frames, last) = form.as_chunks::<16>();
+    carry(&rt, frames, &longest);
+    holds(
+        &rt,
+        &form.len(),
+        form.len() == 104872 && frames.len() == 6554,
+    );
+    holds(&rt, &"the last", last == LAST_OF_LONGEST.as_slice());
+    holds(&rt, &"received", is_received(alloc, &form, &longest)?);
+    Ok(())
 }

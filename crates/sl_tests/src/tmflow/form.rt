@@ -4,7 +4,7 @@ ghost use Rattle.std.specs.Prelude.{◌≤◌};
 use super::{NORMAL_FORM, OF_23, SPLIT};
 use crate::support::packets::{delivered_of, has, longest, none};
 use crate::support::recordings::{TELEMETRY, TM_FRAME};
-use crate::support::rows::{Stop, passes};
+use crate::support::rows::{Stop, holds, passes};
 use crate::support::tm::{ended, extractor, form_of, held, is_form, shape};
 use sl_packet::Delivered;
 use sl_tmflow::{Extractor, TmForm};
@@ -29,15 +29,12 @@ const PACKETS: [(u16, &[u8]); 3] = [(0, &OF_23), (0, &TELEMETRY), (3, &SPLIT)];
 // idle packet completes on each channel.
 const PIECES: [usize; 3] = [32, 32, 32];
 
-fn is_form_of(alloc: Global, packets: &[(u16, &[u8])], wanted: &[u8]) -> Result<bool, Stop> {
-    let delivered = delivered_of(alloc, packets)?;
-    is_form(alloc, &delivered, wanted)
-}
-
 #[test]
-fn the_normal_form_of_one_packet(rt: HostRuntime) {
-    let outcome = is_form_of(rt.alloc(), &[(0, &TELEMETRY)], &TM_FRAME);
-    passes(&rt, &TELEMETRY, outcome);
+fn the_normal_form_of_one_packet(rt: HostRuntime) -> Result<(), Stop> {
+    let delivered = delivered_of(rt.alloc(), &[(0, &TELEMETRY)])?;
+    let is_form = is_form(rt.alloc(), &delivered, &TM_FRAME)?;
+    holds(&rt, &TELEMETRY, is_form);
+    Ok(())
 }
 
 // Adds the next piece to the form: whether it has this number of octets.
@@ -81,14 +78,12 @@ fn are_form(alloc: Global, delivered: &Delivered) -> Result<bool, Stop> {
     Ok(are_all && is_form && form.starts_with(&NORMAL_FORM))
 }
 
-fn is_in_pieces(alloc: Global) -> Result<bool, Stop> {
-    let delivered = delivered_of(alloc, &PACKETS)?;
-    are_form(alloc, &delivered)
-}
-
 #[test]
-fn the_pieces_of_a_form_follow_one_another(rt: HostRuntime) {
-    passes(&rt, &PIECES, is_in_pieces(rt.alloc()));
+fn the_pieces_of_a_form_follow_one_another(rt: HostRuntime) -> Result<(), Stop> {
+    let delivered = delivered_of(rt.alloc(), &PACKETS)?;
+    let are_form = are_form(rt.alloc(), &delivered)?;
+    holds(&rt, &PIECES, are_form);
+    Ok(())
 }
 
 // What the frame of this number should have: its pointer, the packets and idle ones that end in it,

@@ -37,8 +37,8 @@ pub enum RecordingKind {
 /// What is done with a recording, and which frames it has.
 pub type Engine = (VerbName, RecordingKind);
 
-/// Calls the engine of a verb and a kind: for `Show` and `Tm` [`show_tm`], and so on. The faults are
-/// the engine's; `Memory` comes where that engine may be refused memory, for `Show` never.
+/// Calls the engine of a verb and a kind: for `Show` and `Tm` [`show_tm`], and so on. The faults
+/// are the engine's; `Memory` comes where that engine may be refused memory, for `Show` never.
 pub fn run_engine<R: Read, W: Write>(
     alloc: Global,
     engine: Engine,
@@ -55,7 +55,8 @@ pub fn run_engine<R: Read, W: Write>(
     // Memory is refused only where that engine may be refused it, for a listing of frames nowhere.
     ensures memory { IfErr result (λ fault. fault ≡ LinkFault.Memory
         → MayRefuseMemoryAtSome R.remaining reader.old reader.new
-        (engine_frames engine.1 managed.now) (MayRefuseEngineMemory engine.0 engine.1 managed.now)) }
+        (engine_frames engine.1 managed.now)
+        (MayRefuseEngineMemory engine.0 engine.1 managed.now)) }
 {
     match engine {
         (VerbName::Show, RecordingKind::Tm) => show_tm(managed, reader, writer),

@@ -47,8 +47,8 @@ pub trait Form {
         ensures keeps { ready self.old → ready self.new }
         ensures capacity { vec_capacity text.old ≤ vec_capacity text.new };
 
-    /// Takes the memory that the form wants for itself. The text has room for a piece, and keeps its
-    /// octets.
+    /// Takes the memory that the form wants for itself. The text has room for a piece, and keeps
+    /// its octets.
     fn reserve(&mut self, text: &mut Vec<u8>) -> Result<(), LinkFault>
         requires room { vec_len text.old + piece_size ≤ vec_capacity text.old }
         ensures ready { OnOk result (ready self.new) }

@@ -119,6 +119,7 @@ class Frames:
         self.risen: Counter[int] = counter()
         self.secondary, self.access, self.followed = 0, 0, FOLLOWED * headed
         self.turns = 0                                    # frames of another spacecraft than the one before
+        self.packets = 0                                  # units that are a space packet by their length
         self.steps: Counter[str] = counter()
         self.pairs: Counter[str] = counter()
         # By the octets after the data: packets that go on, or don't; frames whose end shows them, or doesn't (None).
@@ -157,6 +158,7 @@ class Frames:
                 self.followed += 1
                 self.end(frame, is_next, courses.setdefault(vc, (Course(0), Course(2))))
             self.turns += before not in (None, key)
+            self.packets += 7 + (frame[4] << 8 | frame[5]) == len(frame)
             before, last[key], last_of[vc] = key, frame[2], frame[3]
 
     def end(self, frame: bytes, is_next: bool, courses: Tuple[Course, Course]) -> None:
@@ -182,6 +184,11 @@ class Frames:
         """The share of the frames that are of these spacecraft."""
         enough = max(2, self.number * 0.1)
         return sum(number for number in self.scids.values() if number >= enough) / max(1, self.number)
+
+    @property
+    def are_packets(self) -> bool:
+        """Whether these are space packets of one length: of frames, the segment length identifier says otherwise."""
+        return self.packets >= max(2, 0.5 * self.number)
 
     def checked(self) -> int:
         """How many frames have a right error control field."""

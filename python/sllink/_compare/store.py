@@ -14,6 +14,7 @@ from typing import Callable, Dict, Iterable, Iterator, List, Optional, Tuple, Un
 from ..tool import Refused, reason_of, shown
 
 KEPT = 1 << 20                                            # octets that are kept in memory before they are written
+SPARE = 2 << 20                                           # octets of memory that are given back to delete the folder
 MOST_PACKETS = 10000                                      # whose records are kept in memory
 NEAR, FAR = 4096, 65536                                   # packets among which the next one that both have is searched
 
@@ -34,7 +35,11 @@ def room(name: str, folder: Optional[str] = None) -> Iterator[str]:
     at the end, and as Python ends where a signal came between."""
     try:
         path = tempfile.mktemp(prefix=f"{name}-", dir=folder)
-        delete = partial(shutil.rmtree, path, ignore_errors=True)
+        spare = [bytes(SPARE)]
+
+        def delete() -> None:
+            spare.clear()
+            shutil.rmtree(path, ignore_errors=True)
         atexit.register(delete)
         try:
             os.mkdir(path, 0o700)

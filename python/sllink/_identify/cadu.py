@@ -61,7 +61,7 @@ def unmarked(recording: RecordingFile, units: Sequence[bytes], distance: int, le
         for length in (it for it in lengths_within(plain, distance - 4) if it >= least):
             frames = Frames([[frame[:length] for frame in plain]], length)
             fecf, why = by_control(frames)
-            if why or not fecf and not plain_evidence(frames):
+            if why or frames.are_packets or not fecf and not plain_evidence(frames):
                 continue
             lines = [name, f"frames of {length} octets" + (
                 f", and {distance - 4 - length} octets after each, as of parity" if distance - 4 > length else "")]
@@ -70,7 +70,7 @@ def unmarked(recording: RecordingFile, units: Sequence[bytes], distance: int, le
             return Answer(CADUS, lines, (), tm_commands(recording, frames, fecf, source),
                           right=frames.checked() / frames.number if fecf else 0)
         frames = Frames([plain], distance - 4)
-        if frames.share > 0.75 and frames.rising()[1] > 0.3:
+        if frames.share > 0.75 and frames.rising()[1] > 0.3 and not frames.are_packets:
             return Answer(CADUS, [name, *about_tm(frames, None)],
                           why="where a frame ends between two markers isn't plain")
     return Answer(CADUS, why="between the markers there are no TM frames, neither as they are nor derandomised")

@@ -91,19 +91,25 @@ def in_turn(head: bytes, lengths: Iterable[int]) -> Set[int]:
     from frame to frame of the whole length."""
     found: Set[int] = set()
     for length in lengths:
-        parts = {length // number for number in range(2, TURNS + 1) if length % number == 0} - found
         end = min(12, len(head) // length) * length
-        follow = Frames([[head[at:at + length] for at in range(0, end, length)]], length).follow
-        if follow[0, True] < max(2, follow[0, False]):
-            found |= {part for part in parts if part >= SHORTEST}
+        if not goes_on(Frames([[head[at:at + length] for at in range(0, end, length)]], length)):
+            found |= {length // number for number in range(2, TURNS + 1)
+                      if length % number == 0 and length // number >= SHORTEST}
     return found
 
 
-def aos_between(head: bytes, length: int, phase: int) -> bool:
-    """Whether AOS frames of a part of this length come in turn with TM frames of it."""
+def goes_on(frames: Frames) -> bool:
+    """Whether packets go on from frame to frame."""
+    return frames.follow[0, True] >= max(2, frames.follow[0, False])
+
+
+def headers_within(head: bytes, length: int, phase: int) -> bool:
+    """Whether headers of AOS or of other TM frames lie at equal distances within these frames."""
     rows = min(len(head) // length - 1, 64)
-    return any(rising_rows(head, length, phase + length // number * place, rows, bytes(8), 1) >= max(3, 0.5 * rows)
-               for number in range(2, TURNS + 1) if length % number == 0 for place in range(1, number))
+    offsets = {length // number * place for number in range(2, TURNS + 1) if length % number == 0
+               for place in range(1, number)}
+    return any(rising_rows(head, length, phase + offset, rows, bytes(8), version) >= max(3, 0.5 * rows)
+               for offset in offsets for version in (0, 1))
 
 
 def multiple(length: int, others: Iterable[int]) -> bool:
@@ -121,7 +127,7 @@ def tm_answer(recording: RecordingFile, head: bytes, length: int, phase: int, fr
     if search.others:
         search = TmSearch(recording, head, length, phase, [*keys, *search.others], control, further)
     known = Frames(search.stretches, length)
-    if known.number == 0:
+    if known.number == 0 or known.are_packets:
         return None
     fecf, why = by_control(known)
     # also where the field seems right: it is so too after zeros that follow each frame
@@ -132,8 +138,8 @@ def tm_answer(recording: RecordingFile, head: bytes, length: int, phase: int, fr
     if fecf is False and not plain_evidence(known):
         rising, pairs = sum(known.steps.values()), sum(known.pairs.values())
         why = f"too few headers agree, or too few counts rise: {rising} of {pairs}"
-    if fecf is False and aos_between(head, length, search.pieces[0][0] % length):
-        why = "headers of AOS transfer frames lie within these frames"
+    if fecf is False and not goes_on(known) and headers_within(head, length, search.pieces[0][0] % length):
+        why = "headers of other frames lie within these, at equal distances"
     if fecf and known.checked() < 3 and recording.size % length:
         why = "only two frames have a right error control field, and the recording doesn't end with a frame"
     lines = [frames_line(recording, known, length, search.vain), *about_tm(known, fecf)]
@@ -160,10 +166,12 @@ def completed(recording: RecordingFile, head: bytes, answers: List[Answer]) -> L
     return [it for it in again if it]
 
 
-def trailed(recording: RecordingFile, head: bytes, search: TmSearch, stride: int, length: int) -> Answer:
+def trailed(recording: RecordingFile, head: bytes, search: TmSearch, stride: int, length: int) -> Optional[Answer]:
     """The answer for frames after each of which other octets come."""
     phase = search.pieces[0][0]
     frames = Frames([[frame[:length] for frame in stretch] for stretch in search.stretches], length)
+    if frames.are_packets:
+        return None
     fecf, why = by_control(frames)
     start = f"tail -c +{phase + 1} {quoted(recording.name)} | " if phase else ""
     source = f"perl -e '$/=\\{stride}; while(<STDIN>){{print substr($_,0,{length})}}'"

@@ -1,5 +1,5 @@
 -- How a framer delimits the TC frames of a recording that comes in chunks. Only contracts of
--- private functions cite `IsSplit`, `TakesUpToFrame` and `YieldsFrameOrNone`.
+-- private functions cite `IsSplit` and `TakesUpToFrame`.
 use Rattle.std.specs.Prelude.{◌≡◌, ◌⊎◌, ⊤, ◌↔◌, ℕ, nat_lt, Bool, true, false, if◌then◌else◌, List, [], ◌∷◌, ◌++◌, length, take, drop, Option, None, Some, IsNone}
 use Rattle.std.specs.Borrow.{Bor}
 use Rattle.std.specs.List.{concat}
@@ -119,13 +119,6 @@ IsStuck f = front_of f.format f.rest ≡ BelowLeast
 pub record HasTaken (old : TcFraming) (chunk : List ℕ) (answer : Option (Bor (List ℕ))) (new : TcFraming) : Type 0 where
   pub after : new ≡ after_call old chunk (lent_octets answer)
   pub stuck : IsStuck old → new ≡ old
-
--- The answer of a call, and what is left of the chunk. The answer is a frame, which is one by its
--- frame length field, or no frame is whole.
-abbrev pub YieldsFrameOrNone : TcFraming → List ℕ → Option (Bor (List ℕ)) → List ℕ → Type 0
-YieldsFrameOrNone old chunk None left = YieldsNone old chunk left
-YieldsFrameOrNone old chunk (Some frame) left =
-    YieldsFrame old chunk frame.now left × (is_cut old.format frame.now ≡ true)
 
 -- A framer that is stuck takes no octet and returns no frame.
 abbrev pub StaysStuck : TcFraming → List ℕ → Option (Bor (List ℕ)) → List ℕ → Type 0

@@ -38,7 +38,7 @@ impl Model for TcFramer {
 
 impl TcFramer {
     ghost use Rattle.sl_tcframe.specs.TcFraming.{IsStuck, HasTaken, StaysStuck, at_start};
-    ghost use Rattle.sl_tcframe.specs.TcFraming.{YieldsFrame, YieldsFrameOrNone, YieldsNone};
+    ghost use Rattle.sl_tcframe.specs.TcFraming.{YieldsFrame, YieldsNone};
     ghost use Rattle.sl_tcframe.specs.contracts.tc_framer.TcFramer.{the_row};
 
     /// A framer for frames of this format. No octet is taken yet.
@@ -146,12 +146,14 @@ impl TcFramer {
     }
 
     // As `next`, where `next_from` finds no whole frame in the piece alone. Such calls are expected
-    // to be rare. The clause `answer` is `frame`, `cut` and `none` in one: no proof names one of
-    // them here.
+    // to be rare.
     #[cold]
     fn next_across(&mut self, piece: &mut &[u8]) -> Option<&[u8]>
         ensures* taken { sem 𝓛 (Rests the_row self.entry (HasTaken self.old piece.old.now result)) }
-        ensures answer { YieldsFrameOrNone self.old piece.old.now result piece.new.now }
+        ensures frame { IfSome result (λ frame.
+            YieldsFrame self.old piece.old.now frame.now piece.new.now) }
+        ensures cut { IfSome result (λ frame. is_cut self.old.format frame.now ≡ true) }
+        ensures none { IfNone result (YieldsNone self.old piece.old.now piece.new.now) }
         ensures stuck { StaysStuck self.old piece.old.now result piece.new.now }
     {
         self.next(piece)

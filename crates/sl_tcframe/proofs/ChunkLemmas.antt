@@ -8,7 +8,7 @@ use Rattle.std.proofs.lemmas.Option.{none-some}
 use Rattle.sl_fields.specs.Field.{IsOctets}
 use Rattle.sl_tcframe.specs.TcDelimited.{IsTcDelimited, front_len, tc_frames_of, tc_remainder_of}
 use Rattle.sl_tcframe.specs.TcFrame.{TcFormat, is_cut, stated_frame_len}
-use Rattle.sl_tcframe.specs.TcFraming.{BeginsWith, FrameFront, Incomplete, BelowLeast, WholeFrame, IsRest, len_by_four, front_of, TcFraming, YieldsFrame, YieldsNone, YieldsFrames, ended, yielded, paused, after_call, at_start, AnyChunksAreTaken, ChunksAreDelimited, FrontsAreFrames, NoneFollowsBelowLeast}
+use Rattle.sl_tcframe.specs.TcFraming.{BeginsWith, FrameFront, Incomplete, BelowLeast, WholeFrame, IsRest, len_by_four, front_of, TcFraming, YieldsFrame, YieldsNone, YieldsFrames, ended, yielded, paused, after_call, at_start, AnyChunksAreTaken, BelowLeastIsNoFrame, ChunksAreDelimited, FrontsAreFrames}
 use Rattle.sl_tcframe.proofs.DelimitedLemmas.{HasFrame, cases_front, cut_front, each_is_delimited, front_is, front_is_cut, front_some, frames_of-frame, frames_of-none, remainder_of-frame, remainder_of-none}
 use Rattle.sl_tcframe.proofs.FramingLemmas.{FrontIs, below_is_not_whole, below_stays, fits_rest, four_state_it, front_below_least, front_tells, front_whole, len_by_four-append, rest_fits}
 use Rattle.sl_tcframe.proofs.PartLemmas.{facts_cut}
@@ -80,8 +80,8 @@ none_below format octets more each below =
     no_frame format (octets ++ more) each
     (λ f same. let least = f.least in absurd (omega (arith, same, least, facts.1, len_by_four-append octets more facts.0)))
 
-pub none_follows_below_least : NoneFollowsBelowLeast
-none_follows_below_least format octets more len each below begins =
+pub below_least_is_no_frame : BelowLeastIsNoFrame
+below_least_is_no_frame format octets more len each below begins =
     none-some len (sym (none_below format octets more each below) ∙ front_begins format (octets ++ more) len begins)
 
 -- a whole front is a frame

@@ -27,9 +27,9 @@ carrier = 0x00 ∷ 0x01 ∷ 0x00 ∷ 0x0F ∷ 0x00 ∷ unit
 abbrev short : ℕ → List ℕ
 short first = first ∷ 0x01 ∷ 0x00 ∷ 0x06 ∷ 0x00 ∷ 0xC0 ∷ 0x00 ∷ []
 
--- frames of type BC without error control, with this data field
+-- frames of type BC without error control, with this frame length field and this data field
 abbrev command : ℕ → List ℕ → List ℕ
-command len field = 0x30 ∷ 0x01 ∷ 0x14 ∷ len ∷ 0x09 ∷ field
+command length field = 0x30 ∷ 0x01 ∷ 0x14 ∷ length ∷ 0x09 ∷ field
 
 pub record AreRead : Type 0 where
   pub accepted : tc_frame (format 16) 1 carrier ≡ Ok (shows 0 (Ad 0 unit))

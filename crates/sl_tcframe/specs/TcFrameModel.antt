@@ -4,8 +4,8 @@ use Rattle.sl_tcframe.specs.TcFrame.{TcView, IsInRange}
 use Rattle.sl_tcframe.specs.TcContent.{content}
 use Rattle.sl_tcframe.specs.declared.tc_frame.TcFrame.TheInside.{Inside}
 
-abbrev pub inside_view : Inside → TcView
-inside_view f = record { vc = f.vc; content = content f.content }
+abbrev pub frame_view_of : Inside → TcView
+frame_view_of f = record { vc = f.vc; content = content f.content }
 
 abbrev pub IsTcFrame : Inside → Type 0
-IsTcFrame f = IsInRange (inside_view f)
+IsTcFrame f = IsInRange (frame_view_of f)

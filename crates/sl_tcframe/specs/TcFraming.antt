@@ -176,9 +176,9 @@ FrontsAreFrames =
     (format : TcFormat) (octets : List ℕ) (len : ℕ) → IsOctets octets
     → (front_of format octets ≡ WholeFrame len) ↔ BeginsWith format octets len
 
--- After a stated length below the least no frame begins here, whatever follows.
-abbrev pub NoneFollowsBelowLeast : Type 0
-NoneFollowsBelowLeast =
+-- Octets that state a length below the least don't begin with a frame, however they go on.
+abbrev pub BelowLeastIsNoFrame : Type 0
+BelowLeastIsNoFrame =
     (format : TcFormat) (octets more : List ℕ) (len : ℕ) → IsOctets (octets ++ more)
     → front_of format octets ≡ BelowLeast
     → BeginsWith format (octets ++ more) len → ⊥

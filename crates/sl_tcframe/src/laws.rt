@@ -1,9 +1,9 @@
 //! The laws on this crate's definitions. Each function is empty; its clauses are the laws.
 ghost use Rattle.sl_tcframe.specs.AdFrame.{AdFramesAreReadBack, AdFramesAreWhole};
 ghost use Rattle.sl_tcframe.specs.TcDelimited.{EachIsTcDelimited, IsTcDelimitedOnce};
-ghost use Rattle.sl_tcframe.specs.TcFraming.{AnyChunksAreTaken, ChunksAreDelimited};
-ghost use Rattle.sl_tcframe.specs.TcFraming.{FrontsAreFrames, IncompleteBecomesFrame};
-ghost use Rattle.sl_tcframe.specs.TcFraming.{NoneFollowsBelowLeast};
+ghost use Rattle.sl_tcframe.specs.TcFraming.{AnyChunksAreTaken, BelowLeastIsNoFrame};
+ghost use Rattle.sl_tcframe.specs.TcFraming.{ChunksAreDelimited, FrontsAreFrames};
+ghost use Rattle.sl_tcframe.specs.TcFraming.{IncompleteBecomesFrame};
 ghost use Rattle.sl_tcframe.specs.TcFrame.{EachHasParts, HasPartsOnce, OnlyFramesHaveParts};
 ghost use Rattle.sl_tcframe.specs.TcFrame.{EachIsRead, IsReadOnce};
 ghost use Rattle.sl_tcframe.specs.VcSet.{AddedNumbersRise, ListsOnce, NumbersAreAdded};
@@ -55,11 +55,11 @@ pub fn texts_list_channels_once()
 /// that states less than the least length of a frame.
 ///
 /// - The front is a whole frame exactly where the octets begin with a frame of this length.
-/// - After a stated length below the least no frame begins here, whatever octets follow.
+/// - Octets that state a length below the least don't begin with a frame, however they go on.
 /// - An incomplete front becomes a frame with some octets more.
 pub fn tc_fronts_tell_frames()
     ensures whole { FrontsAreFrames }
-    ensures below { NoneFollowsBelowLeast }
+    ensures below { BelowLeastIsNoFrame }
     ensures incomplete { IncompleteBecomesFrame }
 {}
 

@@ -65,9 +65,9 @@ impl<'a> Model for TcFrame<'a> {
 
     ghost Value = { TcView };
 
-    ghost use Rattle.sl_tcframe.specs.TcFrameModel.{inside_view, IsTcFrame};
+    ghost use Rattle.sl_tcframe.specs.TcFrameModel.{frame_view_of, IsTcFrame};
 
-    ghost view = { inside_view };
+    ghost view = { frame_view_of };
 
     ghost invariant = { IsTcFrame };
 }

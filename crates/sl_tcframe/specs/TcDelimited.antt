@@ -7,8 +7,8 @@ use Rattle.sl_tcframe.specs.TcFrame.{TcFormat, stated_frame_len, least_of, is_cu
 
 -- No frame begins with these octets, so the recording's frames end here. One of three things is so:
 -- there are fewer octets than a primary header has, the stated length is below the least length of
--- a frame, or there are fewer octets than the stated length. No frame has only four octets.
--- (`front_of` needs four, since the frame length field ends there.)
+-- a frame, or there are fewer octets than the stated length. `front_of` of TcFraming asks for four
+-- octets, not five. Both find the same frames, since four octets are never a whole frame.
 abbrev pub begin_no_frame : TcFormat → List ℕ → Bool
 begin_no_frame format octets =
     nat_lt (length octets) 5
@@ -32,13 +32,13 @@ pub record IsTcDelimited (format : TcFormat) (recording : List ℕ) (frames : Li
 abbrev pub front_len : TcFormat → List ℕ → Option ℕ
 front_len format octets = if begin_no_frame format octets then None else Some (stated_frame_len octets)
 
--- the frame at the front of octets, as a list of one or none
+-- the frame at the front of octets, as a list of one or none; `len` is `front_len` of the octets
 abbrev pub frame_at : Option ℕ → List ℕ → List (List ℕ)
 frame_at None octets = []
 frame_at (Some len) octets = take len octets ∷ []
 
 -- how many octets after the first one are passed over before a frame is looked for again: the
--- others of the frame that begins here, or all where none begins
+-- others of the frame that begins here, or all where none begins; `len` as in `frame_at`
 abbrev pub frame_passed : Option ℕ → List ℕ → ℕ
 frame_passed None octets = length octets
 frame_passed (Some len) octets = len - 1

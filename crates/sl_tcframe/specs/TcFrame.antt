@@ -43,8 +43,9 @@ least_of format = 5 + fecf_len format.fecf
 abbrev pub stated_frame_len : List ℕ → ℕ
 stated_frame_len octets = (tc_header_of octets).length + 1
 
--- whether octets are one frame as the delimiting cuts it out of a recording: no fewer than the
--- least length, and as many as their frame length field states
+-- Whether octets are one frame as the delimiting cuts it out of a recording: no fewer than the
+-- least length, and as many as their frame length field states. The pages and laws call this one
+-- frame by its frame length field, and `AdFramesAreWhole` calls it whole.
 abbrev pub is_cut : TcFormat → List ℕ → Bool
 is_cut format octets = not (nat_lt (length octets) (least_of format)) && length octets == stated_frame_len octets
 
@@ -87,9 +88,9 @@ Carries h field (SetVr vr) = (h.bypass ≡ true) × (h.command ≡ true) × (fie
 
 -- Why a frame is skipped: a wrong error control field where the format has one; another version
 -- than 0; another spacecraft; more octets than the managed greatest length; the control command
--- flag without the bypass flag; no data field; or type BC without a control command. The law on
--- reading holds for any octets. `tc_parts_of` divides any octets too, but where there are too few,
--- its `fecf` isn't the last two. So error control is that of the octets, not of parts as in TM.
+-- flag without the bypass flag; no data field; or type BC without a control command. `Fecf` tests
+-- the whole octets, not the part `fecf` as in TM: `EachIsRead` holds of any octets, and of too few
+-- of them the part isn't the last two octets.
 abbrev pub HasReason : TcFormat → ℕ → List ℕ → TcSkip → Type 0
 HasReason format spacecraft frame Fecf = (format.fecf ≡ true) × (fecf_is_good frame ≡ false)
 HasReason format spacecraft frame Version = (tc_header_of frame).version ≢ 0

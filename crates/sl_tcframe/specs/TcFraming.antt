@@ -20,7 +20,8 @@ pub data FrameFront : Type 0 where
   WholeFrame : ℕ → FrameFront
 
 -- The length that the first four octets state. The frame length field ends with the fourth octet. A
--- primary header has a fifth one, N(S), which the field doesn't reach, so 0 stands for it.
+-- primary header has a fifth one, N(S), which the field doesn't reach, so 0 stands for it. This
+-- agrees with `stated_frame_len` for octets only, so the laws ask for `IsOctets`.
 abbrev pub len_by_four : List ℕ → ℕ
 len_by_four octets = stated_frame_len (take 4 octets ++ 0 ∷ [])
 
@@ -115,7 +116,8 @@ lent_octets (Some octets) = Some octets.now
 abbrev pub IsStuck : TcFraming → Type 0
 IsStuck f = front_of f.format f.rest ≡ BelowLeast
 
--- The state after a call with this chunk and this answer. A framer that is stuck stays as it was.
+-- The state after a call with this chunk and this answer. A framer that is stuck stays as it was,
+-- which follows from `after` and the clauses of `next` and `rest`, and spares callers a proof.
 pub record HasTaken (old : TcFraming) (chunk : List ℕ) (answer : Option (Bor (List ℕ))) (new : TcFraming) : Type 0 where
   pub after : new ≡ after_call old chunk (lent_octets answer)
   pub stuck : IsStuck old → new ≡ old

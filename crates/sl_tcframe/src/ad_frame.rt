@@ -118,7 +118,8 @@ fn push_ad(out: &mut Vec<u8>, shape: &TcShape, frame: &AdFrame) -> Result<(), Al
     requires spacecraft { frame.now.spacecraft ≤ 1023 }
     requires vc { frame.now.vc ≤ 63 }
     // The two parts together are a data field of at most the greatest length. For 16 <= max
-    // `plain_room_of` is this bound too, but the proof of `push_tc` doesn't have 16 <= max.
+    // `plain_room_of` is this bound too. Below 16 subtraction may stop at 0, and the two differ.
+    // `push_tc` reads no field of `shape`, so its proof has no 16 <= max (see `frame_len`).
     requires unit { length frame.now.segment.now + length frame.now.octets.now
         ≤ 1 + segment_room_of shape.now }
     // The frame is added.

@@ -12,7 +12,8 @@
 //! Management says for each virtual channel whether its frames of types AD and BD have segment
 //! headers. A [`VcSet`] holds the virtual channels whose frames have none. No call of this crate
 //! that reads or writes frames takes one; calls of `sl_tcflow` and `sl_link` do. The word `plain`
-//! in a name, as in [`push_tc_plain`], means such a channel or frame.
+//! in a name, as in [`push_tc_plain`], means such a channel or frame, but [`TcShape::plain_room`]
+//! is also the bound of a whole data field, with a segment header or without.
 #![tactic(auto)]
 
 mod ad_frame;

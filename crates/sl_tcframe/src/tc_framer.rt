@@ -102,8 +102,9 @@ impl TcFramer {
         // after four octets that state a length below the least.
         ensures none { IfNone result (YieldsNone self.old piece.old.now piece.new.now) }
 
-        // A framer that is stuck takes no octet and returns no frame. The other clauses and that of
-        // `rest` have this as a consequence, so it spares callers a proof.
+        // A framer that is stuck takes no octet and returns no frame. `cut` and `stuck`, and also
+        // `stuck` of `HasTaken`, follow from the other clauses, from those of `rest` and from the
+        // law `tc_fronts_tell_frames`; they spare callers a proof.
         ensures stuck { StaysStuck self.old piece.old.now result piece.new.now }
     {
         if self.is_lent {

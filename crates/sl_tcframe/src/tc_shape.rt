@@ -98,7 +98,8 @@ impl TcShape {
 
     /// Whether the octets are one frame as the delimiting cuts it out of a recording, and so may be
     /// read: there are at least [`least`](TcShape::least) of them, and exactly as many as their
-    /// frame length field states. There may be more than [`max`](TcShape::max).
+    /// frame length field states. There may be more than [`max`](TcShape::max). The laws call such
+    /// octets one frame by their frame length field.
     pub fn is_cut(&self, octets: &[u8]) -> bool
         ensures { result ≡ is_cut self.now octets.now }
     {

@@ -58,12 +58,6 @@ lent_octets (Some octets) = Some octets.now
 abbrev pub HasTaken : TmFraming → List ℕ → Option (Bor (List ℕ)) → TmFraming → Type 0
 HasTaken old chunk answer new = new ≡ after_call old chunk (lent_octets answer)
 
--- The answer and what is left of the chunk: a frame is lent, or the chunk was used up first. Only
--- the contract of a private function cites this.
-abbrev pub YieldsOrUsesUp : TmFraming → List ℕ → Option (Bor (List ℕ)) → List ℕ → Type 0
-YieldsOrUsesUp old chunk None left = UsesUpChunk old chunk left
-YieldsOrUsesUp old chunk (Some frame) left = YieldsFrame old chunk frame.now left
-
 -- ---- calls with chunks, one after another
 
 -- From this state on, each chunk is given until it is used up, and then the next one. These frames

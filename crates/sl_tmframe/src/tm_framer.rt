@@ -34,8 +34,7 @@ impl Model for TmFramer {
 }
 
 impl TmFramer {
-    ghost use Rattle.sl_tmframe.specs.TmFraming.{HasTaken, UsesUpChunk, YieldsFrame};
-    ghost use Rattle.sl_tmframe.specs.TmFraming.{YieldsOrUsesUp, at_start};
+    ghost use Rattle.sl_tmframe.specs.TmFraming.{HasTaken, UsesUpChunk, YieldsFrame, at_start};
     ghost use Rattle.sl_tmframe.specs.contracts.tm_framer.TmFramer.{the_row};
 
     /// A framer for frames of this format that has taken no octet yet.
@@ -119,12 +118,13 @@ impl TmFramer {
     }
 
     // As `next`, out of line: for a frame that lies in several pieces, and for a piece that ends
-    // before a frame is complete. The clause `answer` is `frame` and `used_up` in one: `next_from`
-    // returns the answer as it is, so each of its two clauses is one case of this one.
+    // before a frame is complete.
     #[cold]
     fn next_across(&mut self, piece: &mut &[u8]) -> Option<&[u8]>
         ensures* taken { sem 𝓛 (Rests the_row self.entry (HasTaken self.old piece.old.now result)) }
-        ensures answer { YieldsOrUsesUp self.old piece.old.now result piece.new.now }
+        ensures frame { IfSome result (λ frame.
+            YieldsFrame self.old piece.old.now frame.now piece.new.now) }
+        ensures used_up { IfNone result (UsesUpChunk self.old piece.old.now piece.new.now) }
     {
         self.next(piece)
     }

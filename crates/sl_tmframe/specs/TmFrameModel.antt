@@ -5,8 +5,8 @@ use Rattle.sl_tmframe.specs.TmField.{data_field}
 use Rattle.sl_tmframe.specs.declared.tm_frame.TmFrame.TheInside.{Inside}
 
 -- the view, by the fields of a `TmFrame`; `view_of` is the view by a frame's octets
-abbrev pub inside_view : Inside → TmView
-inside_view f =
+abbrev pub frame_view_of : Inside → TmView
+frame_view_of f =
     record {
       vc = f.header.vc;
       mc_count = f.header.mc;
@@ -17,4 +17,4 @@ inside_view f =
 
 -- the view is in range
 abbrev pub IsTmFrame : Inside → Type 0
-IsTmFrame f = IsInRange (inside_view f)
+IsTmFrame f = IsInRange (frame_view_of f)

@@ -57,9 +57,9 @@ impl<'a> Model for TmFrame<'a> {
 
     ghost Value = { TmView };
 
-    ghost use Rattle.sl_tmframe.specs.TmFrameModel.{inside_view, IsTmFrame};
+    ghost use Rattle.sl_tmframe.specs.TmFrameModel.{frame_view_of, IsTmFrame};
 
-    ghost view = { inside_view };
+    ghost view = { frame_view_of };
 
     ghost invariant = { IsTmFrame };
 }
@@ -168,17 +168,17 @@ fn skip_of(shape: &TmShape, header: &TmHeader, spacecraft: u16, octets: &[u8]) -
 // Splits the octets between the header and the frame error control field into the data field and
 // the operational control field. The second is there where the header says so.
 #[inline(always)]
-fn split_control<'a>(header: &TmHeader, behind: &'a [u8]) -> (&'a [u8], Option<[u8; 4]>)
-    requires { 4 ≤ length behind.now }
+fn split_control<'a>(header: &TmHeader, between: &'a [u8]) -> (&'a [u8], Option<[u8; 4]>)
+    requires { 4 ≤ length between.now }
     ensures field { result.0.now
-        ≡ take (length behind.now - (if header.now.control then 4 else 0)) behind.now }
+        ≡ take (length between.now - (if header.now.control then 4 else 0)) between.now }
     ensures control { result.1
-        ≡ (if header.now.control then Some (drop (length behind.now - 4) behind.now) else None) }
+        ≡ (if header.now.control then Some (drop (length between.now - 4) between.now) else None) }
 {
     if !header.control() {
-        return (behind, None);
+        return (between, None);
     }
-    let (field, control) = back::<4>(behind);
+    let (field, control) = back::<4>(between);
     (field, Some(*control))
 }
 

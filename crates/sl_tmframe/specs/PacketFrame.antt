@@ -26,7 +26,7 @@ frame_fields spacecraft vc mc vcc first =
     ∷ (11, pointer_value first) ∷ []
 
 -- the octets of the frame of packets with these identifiers, these frame counts, this first packet
--- start and this data field
+-- start and this data field; `tm_frame` goes the other way, from octets to a view
 abbrev pub packet_frame : TmFormat → ℕ → ℕ → ℕ → ℕ → Option ℕ → List ℕ → List ℕ
 packet_frame format spacecraft vc mc vcc first field =
     with_fecf format.fecf (octets_of 6 (frame_fields spacecraft vc mc vcc first) ++ field)
@@ -64,7 +64,8 @@ PacketFramesAreWhole =
     → FitFrame format spacecraft vc mc vcc first field
     → length (packet_frame format spacecraft vc mc vcc first field) ≡ format.len
 
--- A frame of packets is read back as it was made.
+-- A frame of packets is read back as it was made: `tm_frame` takes the octets that `packet_frame`
+-- makes to the view with the same values.
 abbrev pub PacketFramesAreReadBack : Type 0
 PacketFramesAreReadBack =
     (format : TmFormat) (spacecraft vc mc vcc : ℕ) (first : Option ℕ) (field : List ℕ)

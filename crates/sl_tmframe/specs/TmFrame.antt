@@ -1,6 +1,7 @@
 -- The TM transfer frame, CCSDS 132.0-B: its parts, why a frame is skipped, and what a frame
 -- carries. This project's own choices are marked as mission profile. One of them is that the packet
--- order flag, the segment length identifier and the master channel frame count are not checked.
+-- order flag, the segment length identifier and the master channel frame count are not checked. The
+-- virtual channel frame count is checked elsewhere: where frames of a channel are joined (`sl_tmflow`).
 use Rattle.std.specs.Prelude.{◌≡◌, ◌≢◌, ◌⊎◌, ⊤, ℕ, ◌+◌, ◌-◌, ◌<◌, ◌≤◌, ◌==◌, nat_lt, Bool, true, false, not, ◌&&◌, ◌||◌, if◌then◌else◌, List, ◌++◌, length, take, drop, Option, None, Some, IfSome, Result, Ok, Err}
 use Rattle.sl_fields.specs.Field.{number_of}
 use Rattle.sl_fields.specs.Fecf.{fecf_of, fecf_is_good}
@@ -193,7 +194,8 @@ abbrev pub read_as : Option TmSkip → TmView → Result TmView TmSkip
 read_as None view = Ok view
 read_as (Some reason) view = Err reason
 
--- the frame as it is read for a spacecraft: its view, or the reason to skip it
+-- the frame as it is read for a spacecraft, from its octets: its view, or the reason to skip it;
+-- `packet_frame` goes the other way, to the octets of a frame of packets
 abbrev pub tm_frame : TmFormat → ℕ → List ℕ → Result TmView TmSkip
 tm_frame format spacecraft frame = read_as (skip_reason format spacecraft frame) (view_of format frame)
 

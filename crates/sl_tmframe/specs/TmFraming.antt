@@ -82,7 +82,7 @@ ChunksAreDelimited =
     → IsTmDelimited len (concat chunks) frames new.rest
 
 -- To octets that are too few for a frame, some octets can be added at the end so that all of them
--- together are exactly one frame. So before the end no framer can tell that no frame comes.
+-- together are exactly one frame. So only the end of the recording shows that they are a remainder.
 abbrev pub ShortBecomesFrame : Type 0
 ShortBecomesFrame =
     (len : ℕ) (octets : List ℕ) → length octets < len

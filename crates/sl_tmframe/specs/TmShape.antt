@@ -1,5 +1,5 @@
 -- The managed formats that TM transfer frames may have. Code has a format as a `TmShape`, specs as
--- the `TmFormat` of TmFrame.antt, so that the types have two names. `field_room_of`, which is the
+-- the `TmFormat` of TmFrame.antt: these are two names for one thing. `field_room_of`, which is the
 -- room of a `TmShape`, is in PacketFrame.antt.
 use Rattle.std.specs.Prelude.{if◌then◌else◌, Result, Ok, Err}
 use Rattle.sl_fields.specs.Shape.{is_outside}

@@ -40,9 +40,9 @@ pub fn tm_recordings_are_delimited()
 /// chunk. The frames that the framer yields are the recording's frames, and the octets that were
 /// taken after the last frame are the remainder.
 ///
-/// A remainder may be the front of a frame: to octets that are too few for a frame, some octets can
-/// be added at the end so that all of them together are exactly one frame (clause `short`). So
-/// until the recording ends no framer can tell that no frame comes.
+/// A remainder can always still become a frame: to octets that are too few for a frame, some octets
+/// can be added at the end so that all of them together are exactly one frame (clause `short`). So
+/// only the end of the recording shows that it is a remainder.
 pub fn tm_chunks_are_delimited()
     ensures any { AnyChunksAreTaken }
     ensures delimited { ChunksAreDelimited }

@@ -73,7 +73,8 @@ impl<'a> TmFrame<'a> {
     /// borrowed from `octets`.
     ///
     /// The packet order flag, the segment length identifier and the master channel frame count are
-    /// not checked, by this project's choice.
+    /// not checked, by this project's choice. The virtual channel frame count isn't checked here,
+    /// but where frames of a channel are joined (`sl_tmflow`).
     #[inline(always)]
     pub fn read(shape: &TmShape, spacecraft: u16, octets: &'a [u8]) -> Result<TmFrame<'a>, TmSkip>
         requires whole { length octets.now ≡ shape.now.len }

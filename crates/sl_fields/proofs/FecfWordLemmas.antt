@@ -7,6 +7,7 @@ use Rattle.std.proofs.lemmas.Nat.{xor_block, same_from_place, pow-add}
 use Rattle.std.proofs.Math.Nat.{mul_assoc}
 use Rattle.sl_fields.specs.Field.{bit_of, number_of}
 use Rattle.sl_fields.specs.Fecf.{octet_bits, bits_of, bits_number, plus_bits, divided, remainder, fecf_of}
+use Rattle.sl_fields.specs.FecfFolds.{part_of}
 use Rattle.sl_fields.specs.FecfWords.{word_of, AreWords}
 use Rattle.sl_fields.specs.declared.words.TheConstants.{WORDS}
 use Rattle.sl_fields.proofs.Division.{ran, zeros, ones, length-plus_bits, length-ran, divided-ran, bits_number-lt, bits_number-plus, register_of-ran, fecf_of-register, fecf_of-append}
@@ -74,12 +75,12 @@ remainder-left count message =
     ∙ ap bits_number (divided-ran zeros bits refl)
 
 word_of-ran : (octet : ℕ) → word_of 0 octet ≡ bits_number (ran zeros (octet_bits octet))
-unfolding word_of
+unfolding part_of
 word_of-ran octet = remainder-left 0 (octet_bits octet)
 
 -- the table has the words: computed
 pub are_words : AreWords WORDS
-unfolding word_of
+unfolding part_of
 are_words = refl
 
 -- the table's word at an octet

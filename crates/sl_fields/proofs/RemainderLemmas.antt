@@ -2,7 +2,7 @@
 use Rattle.std.proofs.Common.{◌≡◌, ℕ, zero, suc, ◌+◌, ◌-◌, ◌*◌, ◌≤◌, Bool, true, false, List, [], ◌∷◌, ◌++◌, length, replicate, refl, sym, ◌∙◌, ap, arith}
 use Rattle.std.proofs.lemmas.List.{length-append, length-replicate}
 use Rattle.sl_fields.specs.Fecf.{plus_bits, divided, remainder, preset, octet_bits, bits_of, bits_number, fecf_of, register_of}
-use Rattle.sl_fields.specs.FecfWords.{word_of}
+use Rattle.sl_fields.specs.FecfFolds.{part_of}
 use Rattle.sl_fields.specs.Remainder.{multiple, IsRemaindersNumber, DivisionFindsRemainder, RemainderIsOnlyOne, FieldIsRemainder, WordIsRemainder}
 use Rattle.sl_fields.proofs.Division.{low_generator, length-plus_bits, plus_bits-assoc, preset-ones, ones}
 use Rattle.sl_fields.proofs.FecfSums.{plus_bits-false, plus_bits-twice}
@@ -79,7 +79,7 @@ field_is_remainder octets =
     remainders_number (preset bits) (omega (arith, length-append (bits_of octets) (replicate 16 false)))
 
 pub word_is_remainder : WordIsRemainder
-unfolding word_of
+unfolding part_of
 word_is_remainder later octet =
     let bits = octet_bits octet ++ replicate (8 * later + 16) false in
     remainders_number bits (omega (arith, length-append (octet_bits octet) (replicate (8 * later + 16) false), length-replicate (8 * later + 16) false))

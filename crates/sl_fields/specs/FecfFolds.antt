@@ -1,5 +1,5 @@
 -- Octets of a message that are added to later ones, with zeros in their own place. Only contracts
--- of private functions cite `part_of` and `first_two_of`.
+-- of private functions cite `first_two_of`, and only they and `word_of` cite `part_of`.
 use Rattle.std.specs.Prelude.{◌≡◌, ℕ, ◌+◌, ◌-◌, ◌*◌, ◌%◌, ◌^◌, ◌≤◌, false, List, [], ◌∷◌, ◌++◌}
 use Rattle.std.specs.Prelude.{length, take, replicate, bit_xor}
 use Rattle.sl_fields.specs.Fecf.{bits_of, bits_number, remainder, fecf_of}

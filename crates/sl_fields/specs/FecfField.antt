@@ -4,7 +4,8 @@ use Rattle.std.specs.Prelude.{ℕ, Bool, if◌then◌else◌, List, [], ◌∷�
 use Rattle.sl_fields.specs.Fecf.{fecf_of}
 use Rattle.sl_fields.specs.Field.{octets_of}
 
--- `fecf_field`: the two octets of the field that follows these octets, the most significant first
+-- What the function `fecf_field` returns: the two octets of the field that follows these octets,
+-- the most significant first.
 abbrev pub fecf_octets : List ℕ → List ℕ
 fecf_octets octets = octets_of 2 ((16, fecf_of octets) ∷ [])
 

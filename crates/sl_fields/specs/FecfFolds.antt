@@ -9,9 +9,9 @@ use Rattle.sl_fields.specs.Fecf.{bits_of, bits_number, remainder, fecf_of}
 unfoldable pub part_of : ℕ → List ℕ → ℕ
 part_of later octets = bits_number (remainder (bits_of octets ++ replicate (8 * later + 16) false))
 
--- The octets before the whole slices of sixteen, the last of which ends with the message: at the
--- end of two slices, behind zeros and 84 CF, which turn a register of zeros into the preset. They
--- are at most 15 octets, so with 84 CF at most 17.
+-- The whole slices of sixteen octets end with the message. The `count` octets before them, at most
+-- 15, are put at the end of two slices of their own, behind zeros and 84 CF, which turn a register
+-- of zeros into the preset.
 abbrev pub first_two_of : List ℕ → List ℕ
 first_two_of octets =
     let count = length octets % 16 in

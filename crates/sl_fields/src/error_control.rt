@@ -19,8 +19,8 @@ use crate::folds::folded;
 use crate::words::WORDS;
 use byteorder::{BigEndian, ByteOrder};
 
-// From this many octets on it takes longer to go octet by octet than to fold them first. `folded`
-// needs 16 or more. The 22 places of the folds are another number.
+// From this many octets on, folding first was faster than octet by octet when it was tried.
+// `folded` needs 16 or more. That the folds have 22 places too is chance.
 const LEAST_FOLDED: usize = 22;
 
 /// The frame error control field (CCSDS 132.0-B and 232.0-B) that follows these octets in a frame.
@@ -39,8 +39,8 @@ pub fn fecf(octets: &[u8]) -> u16
         };
         return number(after_octets(preset, octets));
     }
-    // This is the same: `folded` puts `84 CF` before the octets, which turn zeros into the preset.
-    // For `TakesIn`, zeros are the register after the message `FF FF`.
+    // Division from zeros gives the same, since `folded` puts 84 CF in front. (Only for the proof:
+    // `TakesIn` asks for a message that leaves zeros, which is FF FF.)
     let zeros = Register { high: 0, low: 0 };
     number(after_octets(zeros, &folded(octets).to_array()))
 }
@@ -124,7 +124,7 @@ fn after_octet(register: Register, octet: u8) -> Register
     }
 }
 
-// The word of a message's last octet, as two octets, the most significant first.
+// The table's word for these eight bits: their remainder with sixteen zeros after them.
 #[inline(always)]
 fn word(octet: u8) -> [u8; 2]
     ensures { number_of result ≡ word_of 0 octet }

@@ -40,6 +40,7 @@ fn four_of_all(octets: &[u8]) -> (u8x16, u8x16, u8x16, u8x16)
     let (mut newer, second) = first_two(octets);
     let mut newest = newer ^ second;
     for four in fours {
+        // Each sum takes the place of the oldest. After four sums the names are right again.
         oldest = oldest ^ from_4(older, newer) ^ newest ^ u8x16::from_array(four[0]);
         older = older ^ from_4(newer, newest) ^ oldest ^ u8x16::from_array(four[1]);
         newer = newer ^ from_4(newest, oldest) ^ older ^ u8x16::from_array(four[2]);
@@ -53,6 +54,7 @@ fn four_of_all(octets: &[u8]) -> (u8x16, u8x16, u8x16, u8x16)
         newest = sum;
     }
     // The last four sums stay in their places, so what they add to each other is taken off again.
+    // Zeros stand for the sum before `oldest`, which isn't one of the four.
     (
         oldest,
         older ^ oldest,
@@ -61,11 +63,11 @@ fn four_of_all(octets: &[u8]) -> (u8x16, u8x16, u8x16, u8x16)
     )
 }
 
-// The octets before the whole slices, of which the last ends with the message: at the end of two
-// slices, behind zeros and the octets 84 CF. Zeros leave a register of zeros as it is, and 84 CF
-// turn it into the preset.
-// There are `begin` of them, at most 15, so 17 at most with 84 CF: too many for one slice. `padded`
-// has sixteen octets of the message behind 84 CF, and the two slices end after the first `begin`.
+// The whole slices end with the message. The `count` octets before them, at most 15, are put at the
+// end of two slices of their own, behind zeros and 84 CF. Zeros leave a register of zeros as it is,
+// and 84 CF turn it into the preset.
+// With 84 CF they are at most 17 octets: too many for one slice. `padded` has sixteen octets of the
+// message behind 84 CF, and the two slices end after the first `count`.
 #[inline(always)]
 fn first_two(octets: &[u8]) -> (u8x16, u8x16)
     requires { 16 ≤ length octets.now }
@@ -75,10 +77,10 @@ fn first_two(octets: &[u8]) -> (u8x16, u8x16)
     padded[30] = 0x84;
     padded[31] = 0xCF;
     padded[32..].copy_from_slice(&octets[..16]);
-    let begin = octets.len() % 16;
+    let count = octets.len() % 16;
     (
-        u8x16::from_slice(&padded[begin..]),
-        u8x16::from_slice(&padded[begin + 16..]),
+        u8x16::from_slice(&padded[count..]),
+        u8x16::from_slice(&padded[count + 16..]),
     )
 }
 

@@ -21,8 +21,8 @@ pub fn fecf_is_a_remainder()
     ensures { FieldIsRemainder }
 {}
 
-/// The word of an octet is the remainder of another list of bits: the octet's eight bits, eight
-/// zeros for each later octet of the message, and sixteen zeros. None of them is inverted.
+/// The word of an octet is the remainder of a list of bits: the octet's eight bits, eight zeros for
+/// each later octet of the message, and sixteen zeros, without preset.
 ///
 /// `WORDS` has, for each value of an octet, the word of this octet at the end of a message.
 pub fn words_are_remainders()

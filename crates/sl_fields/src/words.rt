@@ -1,9 +1,8 @@
-//! The words of a message's last octet, by which the frame error control field is computed octet by
-//! octet.
+//! The table of `fecf`: for each octet, the remainder of its bits and sixteen zeros.
 
-/// At index `n` the word of the octet `n` that ends a message, as two octets, the most significant
-/// first. The word is the remainder, by the generator x^16 + x^12 + x^5 + 1 and without preset, of
-/// the octet's eight bits and sixteen zeros after them.
+/// At index `n` the word of the octet `n`, as two octets, the most significant first. The word is
+/// the remainder, by the generator x^16 + x^12 + x^5 + 1 and without preset, of the octet's eight
+/// bits and sixteen zeros after them.
 pub(crate) static WORDS: [[u8; 2]; 256] = [
     [0x00, 0x00],
     [0x10, 0x21],

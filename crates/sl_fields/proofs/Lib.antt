@@ -36,12 +36,6 @@ pub mod HeaderFacts
 pub mod HeaderLayout
 -- texts that a separator joins, and how they are split
 pub mod JoinedLemmas
--- a property of each element, filters, one more element
-pub mod ListLemmas
--- numbers that never fall, and some that do
-pub mod NeverFallFacts
--- numbers that never fall
-pub mod NeverFallLemmas
 -- octets and their number in base 256
 pub mod Octets
 -- the layout of a packet's header
@@ -52,9 +46,17 @@ pub mod Packing
 pub mod SegmentHeaderLemmas
 -- the layout of a TC header
 pub mod TcHeaderLemmas
--- tests, and the properties that they decide
-pub mod Tells
 -- the layout of a TM header
 pub mod TmHeaderLemmas
 -- numbers added without carries, in any order
 pub mod Xor
+-- ---- for the crates above
+
+-- a property of each element, filters, one more element
+pub mod ListLemmas
+-- numbers that never fall, and some that do
+pub mod NeverFallFacts
+-- numbers that never fall
+pub mod NeverFallLemmas
+-- tests, and the properties that they decide
+pub mod Tells

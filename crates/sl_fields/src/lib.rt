@@ -10,8 +10,8 @@
 //!
 //! The crate also has three things that several crates above use: the first and the last octets of
 //! a slice ([`front`], [`back`]), a number from 0 to 255 that is read from text ([`read_decimal`]),
-//! and the reason why frame lengths are refused ([`ShapeFault`]). Of the definitions, `Shape` and
-//! `NeverFall` are for them alone. The lemmas on lists, texts and boolean tests are for them too.
+//! and the reason why frame lengths are refused ([`ShapeFault`]). The definitions `Shape`,
+//! `NeverFall` and `with_fecf`, and lemmas on lists and boolean tests, are for crates above alone.
 #![tactic(auto)]
 
 mod bits;

@@ -11,7 +11,7 @@ use std::marker::Model;
 /// The space packet primary header of CCSDS 133.0-B, six octets.
 #[derive(Clone, Copy, Debug, PartialEq, Eq)]
 pub struct PacketHeader {
-    // The fields in their order. The method of the same name describes each field.
+    // The fields in their order. Each field's method describes it. `kind` is the packet type.
     version: u8,
     kind: u8,
     secondary: bool,
@@ -37,8 +37,8 @@ impl Model for PacketHeader {
 
 impl PacketHeader {
     /// The header with these fields, or `None` where a field is out of its range. The range of
-    /// `version` is 0 to 7, of `kind` 0 to 1, of `apid` 0 to 2047, of `flags` 0 to 3, and of
-    /// `count` 0 to 16,383. Any `length` is in range.
+    /// `version` is 0 to 7, of `kind`, the packet type, 0 to 1, of `apid` 0 to 2047, of `flags` 0
+    /// to 3, and of `count` 0 to 16,383. Any `length` is in range.
     pub fn new(
         version: u8,
         kind: u8,

@@ -2,7 +2,7 @@
 use thiserror::Error;
 
 /// Why the frame length that is managed for a physical channel is refused. Returned by
-/// `TmShape::new` of `sl_tmframe` and `TcShape::new` of `sl_tcframe`, which have the bounds.
+/// `TmShape::new` of `sl_tmframe` and `TcShape::new` of `sl_tcframe`, which check the bounds.
 #[derive(Clone, Copy, Debug, PartialEq, Eq, Error)]
 pub enum ShapeFault {
     /// The length of TM transfer frames is outside 32 to 2048 octets. Both bounds are this

@@ -11,8 +11,9 @@ use std::marker::Model;
 /// The TM transfer frame primary header of CCSDS 132.0-B, six octets.
 #[derive(Clone, Copy, Debug, PartialEq, Eq)]
 pub struct TmHeader {
-    // The fields in their order. The method of the same name describes each field. `mc` is the
-    // master channel frame count, `vcc` that of the virtual channel `vc`.
+    // The fields in their order. The method of the same name describes each field. `control` is the
+    // operational control field flag, `mc` the master channel frame count, and `vcc` that of the
+    // virtual channel `vc`.
     version: u8,
     spacecraft: u16,
     vc: u8,

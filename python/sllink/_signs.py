@@ -83,6 +83,8 @@ class Course:
             return None
         self.left = None                                  # then those that start here, up to the one that goes on
         while at + 6 <= len(field) and not field[at] >> 5:
+            if not any(field[at:at + 6]) and not any(field[at:]):
+                return None if left is None else pointer == left     # octets that may be behind the frame
             at += 7 + (field[at + 4] << 8 | field[at + 5])
         if at >= len(field):
             self.left = at - len(field)
@@ -131,7 +133,7 @@ class Frames:
     def take(self, stretch: Sequence[bytes]) -> None:
         last: Dict[int, int] = {}
         last_of: Dict[Channel, int] = {}
-        before: Optional[int] = None
+        before, same = None, b""
         courses: Dict[Channel, Tuple[Course, Course]] = {}
         for frame in stretch:
             if frame[0] >> 6:
@@ -145,6 +147,10 @@ class Frames:
             self.fields[vc] += frame[1] & 1
             self.secondary += frame[4] >> 7
             self.access += (frame[4] & 0xC0) == 0x40
+            self.packets += 7 + (frame[4] << 8 | frame[5]) == len(frame)
+            if frame == same:                             # one that comes twice says nothing more
+                continue
+            same = frame
             if key in last:
                 self.pairs["mc"] += 1
                 self.steps["mc"] += (frame[2] - last[key]) & 255 == 1
@@ -158,7 +164,6 @@ class Frames:
                 self.followed += 1
                 self.end(frame, is_next, courses.setdefault(vc, (Course(0), Course(2))))
             self.turns += before not in (None, key)
-            self.packets += 7 + (frame[4] << 8 | frame[5]) == len(frame)
             before, last[key], last_of[vc] = key, frame[2], frame[3]
 
     def end(self, frame: bytes, is_next: bool, courses: Tuple[Course, Course]) -> None:

@@ -33,7 +33,7 @@ SHOWN_TM = re.compile(rb" frame vc (\d) mc \d+ vcc \d+ (\w+)")
 CLCW = re.compile(rb" frame vc (\d)[^\n]* clcw (\w+) ")
 SHOWN_TC = re.compile(rb" frame ([^\n]*)\n")
 OFFSET_TC = re.compile(rb"(\d+) frame [^\n]*\n")
-MOST_KNOWN = 1 << 15                                      # lines of `show tc` that are kept without their offsets
+MOST_KNOWN = 1 << 14                                      # lines of `show tc` that are kept without their offsets
 
 
 class Cell(NamedTuple):

@@ -201,6 +201,8 @@ def _status(name: str, main: Callable[[List[str]], int], text: str) -> int:
     except (MemoryError, OSError) as error:
         if isinstance(error, MemoryError) or error.errno == errno.ENOMEM:
             said = "there is not enough memory"
+        elif error.errno in (errno.EMFILE, errno.ENFILE):
+            said = "there are too many open files"
         else:
             said = f"{'output' if error.filename is None else shown(error.filename)}: {reason_of(error)}"
     except (Refused, SllinkError) as reason:

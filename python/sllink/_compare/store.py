@@ -14,7 +14,7 @@ from typing import Callable, Dict, Iterable, Iterator, List, Optional, Tuple, Un
 from ..tool import Refused, reason_of, shown
 
 KEPT = 1 << 20                                            # octets that are kept in memory before they are written
-SPARE = 2 << 20                                           # octets of memory that are given back to delete the folder
+SPARE = 2 << 20                                           # octets that are given back, with two files, to delete it
 MOST_PACKETS = 10000                                      # whose records are kept in memory
 NEAR, FAR = 4096, 65536                                   # packets among which the next one that both have is searched
 
@@ -36,9 +36,12 @@ def room(name: str, folder: Optional[str] = None) -> Iterator[str]:
     try:
         path = tempfile.mktemp(prefix=f"{name}-", dir=folder)
         spare = [bytes(SPARE)]
+        held = [os.open(os.devnull, os.O_RDONLY) for _ in range(2)]
 
         def delete() -> None:
             spare.clear()
+            while held:
+                os.close(held.pop())
             shutil.rmtree(path, ignore_errors=True)
         atexit.register(delete)
         try:

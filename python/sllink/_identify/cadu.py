@@ -26,8 +26,8 @@ def cadus(recording: RecordingFile, head: bytes) -> Optional[Answer]:
         return Answer(CADUS, lines, why="there is one marker alone")
     distance, number = distances.most_common(1)[0]
     answer = Answer(CADUS, why="the markers have no one distance")
-    outer = next((there - at[0] for there in at[1:UNITS // 4] if outermost(at, there - at[0])), distance)
-    if outer != distance:
+    outer = next((there - at[0] for there in at[1:UNITS // 4] if outermost(at, there - at[0])), 0)
+    if outer and (outer != distance or any((there - at[0]) % outer for there in at)):
         answer = between(recording, head, range(at[0], at[-1] + 1, outer), outer, outer // 2)
     if not answer.sure and number >= 0.3 * (len(at) - 1) and distance - 4 >= SHORTEST:
         answer = between(recording, head, at, distance)
@@ -39,7 +39,8 @@ def cadus(recording: RecordingFile, head: bytes) -> Optional[Answer]:
 def between(recording: RecordingFile, head: bytes, at: Sequence[int], distance: int, least: int = 0) -> Answer:
     """The answer for what lies between these markers, where it is frames of so many octets."""
     places = [(here + 4, here + distance) for here in at[:PLACES] if here + distance <= len(head)]
-    answer = unmarked(recording, [head[begin:end] for begin, end in places[:UNITS]], distance, least)
+    record = at[0] if isinstance(at, range) else None
+    answer = unmarked(recording, [head[begin:end] for begin, end in places[:UNITS]], distance, least, record)
     answer.places = places
     return answer
 
@@ -54,8 +55,10 @@ def outermost(at: Sequence[int], distance: int) -> bool:
     return found > 2
 
 
-def unmarked(recording: RecordingFile, units: Sequence[bytes], distance: int, least: int) -> Answer:
-    """The answer for what lies between sync markers."""
+def unmarked(recording: RecordingFile, units: Sequence[bytes], distance: int, least: int,
+             record: Optional[int]) -> Answer:
+    """The answer for what lies between sync markers. Where others are within frames, the command line goes by the
+    distance, from this first one on."""
     for mask, name in (None, "not randomised"), (randomiser(), "randomised"):
         plain = [unmasked(unit[:LONGEST], mask) for unit in units]
         for length in (it for it in lengths_within(plain, distance - 4) if it >= least):
@@ -67,6 +70,9 @@ def unmarked(recording: RecordingFile, units: Sequence[bytes], distance: int, le
                 f", and {distance - 4 - length} octets after each, as of parity" if distance - 4 > length else "")]
             lines += [f"frames {frames.number} looked at", *about_tm(frames, fecf)]
             source = stripped(length, mask is not None) + f" < {quoted(recording.name)}"
+            if record is not None:
+                source = f"tail -c +{record + 5} {quoted(recording.name)} | " + stripped(
+                    length, mask is not None, f"$/=\\{distance}").replace("chomp; ", "")
             return Answer(CADUS, lines, (), tm_commands(recording, frames, fecf, source),
                           right=frames.checked() / frames.number if fecf else 0)
         frames = Frames([plain], distance - 4)

@@ -2,7 +2,7 @@
 
 import re
 from collections import Counter
-from typing import List, Optional, Sequence
+from typing import Iterator, List, Optional, Sequence
 
 from .._signs import tc_field, tc_randomiser, unmasked
 from .answer import Answer, RecordingFile, field_line, quoted, shell
@@ -35,7 +35,7 @@ def cltus(recording: RecordingFile, head: bytes) -> Optional[Answer]:
         return None
     for sequenced, name in (None, "not randomised"), (tc_randomiser(), "randomised"):
         plain = [unmasked(unit, sequenced) for unit in units]
-        frames = [unit[:stated(unit)] for unit in plain if not unit[0] >> 6 and stated(unit) >= 5]
+        frames = [frame for unit in plain for frame in whole(unit)]
         scids = Counter(channel_of(frame)[0] for frame in frames)
         if frames and scids.most_common(1)[0][1] >= 0.8 * len(units):
             return coded(recording, frames, name, scids.most_common(1)[0][0], len(units), first, sequenced)
@@ -48,6 +48,13 @@ def stated(frame: bytes) -> int:
     return ((frame[2] & 3) << 8 | frame[3]) + 1
 
 
+def whole(unit: bytes) -> Iterator[bytes]:
+    """The whole frames of a CLTU, one after another; after them come fill octets."""
+    while len(unit) >= 5 and not unit[0] >> 6 and 5 <= stated(unit) <= len(unit):
+        yield unit[:stated(unit)]
+        unit = unit[stated(unit):]
+
+
 def coded(recording: RecordingFile, frames: Sequence[bytes], name: str, scid: int, number: int, first: int,
           mask: Optional[bytes]) -> Answer:
     """The answer for TC frames in CLTUs."""
@@ -58,9 +65,13 @@ def coded(recording: RecordingFile, frames: Sequence[bytes], name: str, scid: in
     derandomise = "@a=(1)x8; push @a,$a[-2]^$a[-4]^$a[-5]^$a[-6]^$a[-7]^$a[-8] while @a<9000; " \
                   "$p=pack(\"B*\",join \"\",@a); " if mask else ""
     unmask = "$x^=substr($p,0,length $x); " if mask else ""
+    # the code blocks whose parity is right, also where the tail sequence isn't, and of these the whole frames
     source = ("perl -e 'undef $/; $_=<STDIN>; " + derandomise +
-              r"while(/\xeb\x90((?:.{8})*?)\xc5{7}\x79/sg){($x=$1)=~s/(.{7})./$1/sg; " + unmask +
-              "print substr($x,0,(unpack(\"x2n\",$x)&1023)+1)}' < " + quoted(recording.name))
+              "sub right{my $r=0; for(unpack \"C7\",$_[0]){$r^=$_; $r=$r<<1^($r&128?138:0) for 1..8; $r&=254} "
+              "($r^254)==(254&ord substr $_[0],7)} "
+              r'while(/\xeb\x90/g){$a=pos; $x=""; while(length($b=substr $_,$a,8)>7&&right($b)){$x.=substr $b,0,7; '
+              '$a+=8} pos=$a; ' + unmask + "while(length $x>4&&64>ord $x){$n=1+(1023&unpack \"x2n\",$x); "
+              "last if $n<5||$n>length $x; print substr $x,0,$n; $x=substr $x,$n}}' < " + quoted(recording.name))
     return Answer("CLTUs: TC transfer frames in code blocks", lines, (), [shell(recording, uplink.command(), source)],
                   why)
 

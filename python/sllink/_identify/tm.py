@@ -168,16 +168,21 @@ def completed(recording: RecordingFile, head: bytes, answers: List[Answer]) -> L
 
 def trailed(recording: RecordingFile, head: bytes, search: TmSearch, stride: int, length: int) -> Optional[Answer]:
     """The answer for frames after each of which other octets come."""
-    phase = search.pieces[0][0]
+    (*pieces, (begin, end)), name = search.pieces, quoted(recording.name)
+    # nothing comes after the last frame, or a part of what does
+    pieces.append((begin, end + (length if length <= recording.size - end < stride else 0)))
     frames = Frames([[frame[:length] for frame in stretch] for stretch in search.stretches], length)
     if frames.are_packets:
         return None
     fecf, why = by_control(frames)
-    start = f"tail -c +{phase + 1} {quoted(recording.name)} | " if phase else ""
     source = f"perl -e '$/=\\{stride}; while(<STDIN>){{print substr($_,0,{length})}}'"
-    source = start + source if start else source + f" < {quoted(recording.name)}"
+    if len(pieces) > 1:
+        source = f"{joined(recording, pieces)} | {source}"
+    else:
+        source = f"tail -c +{pieces[0][0] + 1} {name} | {source}" if pieces[0][0] else f"{source} < {name}"
     lines = [f"frames of {length} octets at each {stride}; {stride - length} other octets come with each, as of parity",
-             frames_line(recording, frames, stride), *about_tm(frames, fecf)]
+             frames_line(recording, frames, stride), *about_tm(frames, fecf),
+             *(piece_lines(pieces) if len(pieces) > 1 else [])]
     return Answer(f"TM transfer frames of {length} octets, with other octets between them", lines, (),
                   tm_commands(recording, frames, fecf, source), why, 3 * frames.checked(),
                   search.covered() * length / stride, search.units(length), share(head, search.units(length), fecf))

@@ -116,8 +116,10 @@ class TmSearch:
         return ((key,), block[at + 2]), ((key, block[at + 1] >> 1 & 7), block[at + 3])
 
     def before(self, block: bytes, at: int) -> bool:
-        """Whether this is a frame that comes a little before the next one."""
-        return self.fits(block, at) and (self.fecf or 0 < (block[at + self.length + 2] - block[at + 2]) & 255 <= NEAR)
+        """Whether this is a frame that comes a little before the next one, or is the same."""
+        after = at + self.length
+        return self.fits(block, at) and (self.fecf or 0 < (block[after + 2] - block[at + 2]) & 255 <= NEAR
+                                         or block[at:after] == block[after:after + self.length])
 
     def shifted(self, block: bytes, at: int) -> bool:
         """Whether the frame here only seems one, as frames lie otherwise from here on: none of its counts goes on, and

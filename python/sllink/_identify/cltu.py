@@ -50,9 +50,10 @@ def stated(frame: bytes) -> int:
 
 def whole(unit: bytes) -> Iterator[bytes]:
     """The whole frames of a CLTU, one after another; after them come fill octets."""
-    while len(unit) >= 5 and not unit[0] >> 6 and 5 <= stated(unit) <= len(unit):
-        yield unit[:stated(unit)]
-        unit = unit[stated(unit):]
+    at = 0
+    while at + 5 <= len(unit) and not unit[at] >> 6 and 5 <= (long := stated(unit[at:at + 4])) <= len(unit) - at:
+        yield unit[at:at + long]
+        at += long
 
 
 def coded(recording: RecordingFile, frames: Sequence[bytes], name: str, scid: int, number: int, first: int,

@@ -17,7 +17,7 @@
  * Where nothing is said, the first way that the processor has is taken.
  *
  * It takes the options of sllink, and writes what sllink writes for every recording. What it doesn't do: it explains no
- * refused word or value. A fault ends it with status 3 and sllink's line.
+ * refused word or value, and takes some that sllink refuses. A fault ends it with status 3 and sllink's line.
  */
 #include <errno.h>
 #include <stdbool.h>

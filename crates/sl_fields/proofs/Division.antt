@@ -13,18 +13,18 @@ low_generator = drop 1 generator
 
 -- fifteen bits moved up by one, with the generator added where the bit that left the register is 1
 abbrev pub reduced : Bool → List Bool → List Bool
-reduced false word = word ++ false ∷ []
-reduced true word = plus_bits low_generator (word ++ false ∷ [])
+reduced false others = others ++ false ∷ []
+reduced true others = plus_bits low_generator (others ++ false ∷ [])
 
 -- the register's bits after one more bit of the message
 abbrev pub stepped : List Bool → Bool → List Bool
 stepped [] b = []
-stepped (s ∷ word) b = reduced (plus_bit s b) word
+stepped (s ∷ others) b = reduced (plus_bit s b) others
 
 -- the register's bits after a message
 abbrev pub ran : List Bool → List Bool → List Bool
-ran word [] = word
-ran word (b ∷ bits) = ran (stepped word b) bits
+ran register [] = register
+ran register (b ∷ bits) = ran (stepped register b) bits
 
 abbrev pub zeros : List Bool
 zeros = replicate 16 false
@@ -76,32 +76,32 @@ preset-ones (suc k) (b ∷ bits) = ap (λ rest. not b ∷ rest) (preset-ones k b
 
 -- the register does the division
 
-divided-step : (q : Bool) (word bits : List Bool) → length word ≡ 15 → divided (suc (length bits)) (q ∷ plus_bits word (bits ++ zeros)) ≡ divided (length bits) (plus_bits (reduced q word) (bits ++ zeros))
-divided-step false word bits e = ap (λ l. divided (length bits) l) (sym (plus_bits-longer word (bits ++ zeros)))
-divided-step true word bits e =
-    let longer : length low_generator ≤ length (word ++ false ∷ []) = omega (arith, length-append word (false ∷ [])) in
+divided-step : (q : Bool) (others bits : List Bool) → length others ≡ 15 → divided (suc (length bits)) (q ∷ plus_bits others (bits ++ zeros)) ≡ divided (length bits) (plus_bits (reduced q others) (bits ++ zeros))
+divided-step false others bits e = ap (λ l. divided (length bits) l) (sym (plus_bits-longer others (bits ++ zeros)))
+divided-step true others bits e =
+    let longer : length low_generator ≤ length (others ++ false ∷ []) = omega (arith, length-append others (false ∷ [])) in
     ap (λ l. divided (length bits) l)
-    (ap (λ l. plus_bits low_generator l) (sym (plus_bits-longer word (bits ++ zeros)))
-    ∙ plus_bits-assoc low_generator (word ++ false ∷ []) (bits ++ zeros) longer)
+    (ap (λ l. plus_bits low_generator l) (sym (plus_bits-longer others (bits ++ zeros)))
+    ∙ plus_bits-assoc low_generator (others ++ false ∷ []) (bits ++ zeros) longer)
 
-pub length-reduced : (q : Bool) (word : List Bool) → length (reduced q word) ≡ length word + 1
-length-reduced false word = length-append word (false ∷ [])
-length-reduced true word = length-plus_bits low_generator (word ++ false ∷ []) ∙ length-append word (false ∷ [])
+pub length-reduced : (q : Bool) (others : List Bool) → length (reduced q others) ≡ length others + 1
+length-reduced false others = length-append others (false ∷ [])
+length-reduced true others = length-plus_bits low_generator (others ++ false ∷ []) ∙ length-append others (false ∷ [])
 
-pub length-stepped : (word : List Bool) (b : Bool) → length word ≡ 16 → length (stepped word b) ≡ 16
+pub length-stepped : (register : List Bool) (b : Bool) → length register ≡ 16 → length (stepped register b) ≡ 16
 length-stepped [] b e = absurd (omega arith)
-length-stepped (s ∷ word) b e = omega (arith, length-reduced (plus_bit s b) word)
+length-stepped (s ∷ others) b e = omega (arith, length-reduced (plus_bit s b) others)
 
-pub length-ran : (word bits : List Bool) → length word ≡ 16 → length (ran word bits) ≡ 16
-length-ran word [] e = e
-length-ran word (b ∷ bits) e = length-ran (stepped word b) bits (length-stepped word b e)
+pub length-ran : (register bits : List Bool) → length register ≡ 16 → length (ran register bits) ≡ 16
+length-ran register [] e = e
+length-ran register (b ∷ bits) e = length-ran (stepped register b) bits (length-stepped register b e)
 
-pub divided-ran : (word bits : List Bool) → length word ≡ 16 → divided (length bits) (plus_bits word (bits ++ zeros)) ≡ ran word bits
-divided-ran word [] e = ap (λ k. plus_bits word (replicate k false)) (sym e) ∙ plus_bits-zeros word
+pub divided-ran : (register bits : List Bool) → length register ≡ 16 → divided (length bits) (plus_bits register (bits ++ zeros)) ≡ ran register bits
+divided-ran register [] e = ap (λ k. plus_bits register (replicate k false)) (sym e) ∙ plus_bits-zeros register
 divided-ran [] (b ∷ bits) e = absurd (omega arith)
-divided-ran (s ∷ word) (b ∷ bits) e =
-    let rest : length word ≡ 15 = omega arith in
-    divided-step (plus_bit s b) word bits rest ∙ divided-ran (stepped (s ∷ word) b) bits (length-stepped (s ∷ word) b e)
+divided-ran (s ∷ others) (b ∷ bits) e =
+    let rest : length others ≡ 15 = omega arith in
+    divided-step (plus_bit s b) others bits rest ∙ divided-ran (stepped (s ∷ others) b) bits (length-stepped (s ∷ others) b e)
 
 remainder-ran : (bits : List Bool) → remainder (preset (bits ++ zeros)) ≡ ran ones bits
 remainder-ran bits =
@@ -109,9 +109,9 @@ remainder-ran bits =
     let steps : length (preset (bits ++ zeros)) - 16 ≡ length bits = omega arith in
     rw (steps, preset-ones 16 (bits ++ zeros)) (divided-ran ones bits refl)
 
-pub ran-append : (word bits more : List Bool) → ran word (bits ++ more) ≡ ran (ran word bits) more
-ran-append word [] more = refl
-ran-append word (b ∷ bits) more = ran-append (stepped word b) bits more
+pub ran-append : (register bits more : List Bool) → ran register (bits ++ more) ≡ ran (ran register bits) more
+ran-append register [] more = refl
+ran-append register (b ∷ bits) more = ran-append (stepped register b) bits more
 
 -- the same on numbers
 

@@ -11,7 +11,7 @@ use Rattle.sl_fields.specs.Fecf.{fecf_of}
 use Rattle.sl_fields.specs.FecfFolds.{part_of, first_two_of}
 use Rattle.sl_fields.proofs.FecfParts.{part-append, part-none, part-zeros, preset_by_84_CF}
 use Rattle.sl_fields.proofs.FecfRecurrence.{part-recurs}
-use Rattle.sl_fields.proofs.FecfSlices.{none, slices, length-sum, length-across, part-cut, part-two, part-four}
+use Rattle.sl_fields.proofs.FecfSlices.{zero_slice, slices, length-sum, length-across, part-cut, part-two, part-four}
 use Rattle.sl_fields.proofs.Xor.{xor_sums}
 
 -- the next sum
@@ -21,7 +21,7 @@ next_sum a b c d slice = zip2 bit_xor (zip2 bit_xor (zip2 bit_xor a (drop 4 b ++
 -- the last four sums, without what they add to each other
 abbrev pub without_sums : List ℕ → List ℕ → List ℕ → List ℕ → List ℕ
 without_sums a b c d =
-    a ++ (zip2 bit_xor b a ++ (zip2 bit_xor (zip2 bit_xor c b) (drop 4 none ++ take 4 a) ++ zip2 bit_xor (zip2 bit_xor d c) (drop 4 a ++ take 4 b)))
+    a ++ (zip2 bit_xor b a ++ (zip2 bit_xor (zip2 bit_xor c b) (drop 4 zero_slice ++ take 4 a) ++ zip2 bit_xor (zip2 bit_xor d c) (drop 4 a ++ take 4 b)))
 
 -- The part of these four sums without what they add to each other. `a` begins 64 octets before the end, and 48 octets
 -- come after it. It was added to the octets 16 and 44 places later, after which 32 and 4 come. Of `b`, the first four
@@ -32,7 +32,7 @@ held later a b c d =
     (bit_xor (bit_xor (part_of (32 + later) b) (bit_xor (part_of (16 + later) b) (part_of later (take 4 b))))
     (bit_xor (bit_xor (part_of (16 + later) c) (part_of later c)) (part_of later d)))
 
--- the message has the remainder of the four slices
+-- the message has the remainder of these four sums without what they add to each other
 pub record Holds (message a b c d : List ℕ) : Type 0 where
   pub long_a : length a ≡ 16
   pub long_b : length b ≡ 16
@@ -46,7 +46,7 @@ pub record Holds (message a b c d : List ℕ) : Type 0 where
 xor_first : (p16 p q : ℕ) → bit_xor p16 q ≡ bit_xor (bit_xor p16 p) (bit_xor p q)
 xor_first p16 p q = simp xor_sums
 
-pub holds-first : (p q : List ℕ) → length p ≡ 16 → length q ≡ 16 → Holds (p ++ q) none none p (zip2 bit_xor p q)
+pub holds-first : (p q : List ℕ) → length p ≡ 16 → length q ≡ 16 → Holds (p ++ q) zero_slice zero_slice p (zip2 bit_xor p q)
 holds-first p q long_p long_q = record {
   long_a = refl;
   long_b = refl;
@@ -96,7 +96,7 @@ holds-four message a b c d h =
     let long_ba = length-sum b a h.long_b h.long_a in
     let long_cb = length-sum c b h.long_c h.long_b in
     let long_dc = length-sum d c h.long_d h.long_c in
-    let third = zip2 bit_xor (zip2 bit_xor c b) (drop 4 none ++ take 4 a) in
+    let third = zip2 bit_xor (zip2 bit_xor c b) (drop 4 zero_slice ++ take 4 a) in
     let fourth = zip2 bit_xor (zip2 bit_xor d c) (drop 4 a ++ take 4 b) in
     let long_third : length third ≡ 16 = simp (length-sum, length-across, long_cb, h.long_a) in
     let long_fourth : length fourth ≡ 16 = simp (length-sum, length-across, long_dc, h.long_a, h.long_b) in

@@ -5,17 +5,17 @@ use Rattle.std.specs.Int.Bits.{xor_assoc}
 use Rattle.sl_fields.specs.FecfFolds.{part_of}
 use Rattle.sl_fields.proofs.FecfParts.{part-nil}
 use Rattle.sl_fields.proofs.FecfRecurrence.{part-recurs}
-use Rattle.sl_fields.proofs.FecfSlices.{none, slices, length-sum, length-across, part-cut, part-first, part-two, part-four}
+use Rattle.sl_fields.proofs.FecfSlices.{zero_slice, slices, length-sum, length-across, part-cut, part-first, part-two, part-four}
 use Rattle.sl_fields.proofs.Xor.{xor_sums, xor_none, xor_moved}
 
 -- two of four
 
-xor_early : (x h d t e l : ℕ) → bit_xor (bit_xor (bit_xor h d) (bit_xor (bit_xor t e) l)) h ≡ bit_xor d (bit_xor t (bit_xor e l))
-xor_early x h d t e l = simp xor_sums
+xor_early : (h d t e l : ℕ) → bit_xor (bit_xor (bit_xor h d) (bit_xor (bit_xor t e) l)) h ≡ bit_xor d (bit_xor t (bit_xor e l))
+xor_early h d t e l = simp xor_sums
 
--- An early slice goes: its first eight octets are added to the others, and all to those 22 and 32 places later, and the
--- others to those 8 places later.
-early_two : (later : ℕ) (x a : List ℕ) → length x ≡ 16 → a ≡ zip2 bit_xor x (drop 8 none ++ take 8 x)
+-- An early slice goes. `a` is the slice with its first eight octets added to its last eight. All of `a` is added 22
+-- and 32 places later, and its last eight octets also 8 places later.
+early_two : (later : ℕ) (x a : List ℕ) → length x ≡ 16 → a ≡ zip2 bit_xor x (drop 8 zero_slice ++ take 8 x)
     → part_of (32 + later) x ≡ bit_xor (part_of (24 + later) (drop 8 a)) (bit_xor (part_of (16 + later) (take 10 a)) (bit_xor (part_of (10 + later) (drop 10 a)) (part_of later a)))
 early_two later x a e is =
     let long : length a ≡ 16 = ap length is ∙ simp (length-sum, length-across, e) in
@@ -28,15 +28,15 @@ early_two later x a e is =
     let recurs = part-recurs 1 later a in
     xor_moved (part_of (32 + later) a) (part_of (32 + later) x) (part_of (32 + later) (take 8 x)) whole
     ∙ rw (recurs, cut_8, cut_10, n32, n16, first)
-    (xor_early (part_of (32 + later) x) (part_of (32 + later) (take 8 x)) (part_of (24 + later) (drop 8 a)) (part_of (16 + later) (take 10 a)) (part_of (10 + later) (drop 10 a)) (part_of later a))
+    (xor_early (part_of (32 + later) (take 8 x)) (part_of (24 + later) (drop 8 a)) (part_of (16 + later) (take 10 a)) (part_of (10 + later) (drop 10 a)) (part_of later a))
 
 xor_two : (a b c d f g h i r t : ℕ) → bit_xor (bit_xor (bit_xor (bit_xor r f) (bit_xor c g)) d) (bit_xor (bit_xor t h) i) ≡ bit_xor (bit_xor a (bit_xor b (bit_xor c d))) (bit_xor (bit_xor (bit_xor (bit_xor f (bit_xor g (bit_xor h i))) b) a) (bit_xor r t))
 xor_two a b c d f g h i r t = simp xor_sums
 
 -- the later half, where the early half is a and b
 late_two : (p q r t a b sum : List ℕ) → length a ≡ 16 → length b ≡ 16 → length p ≡ 16 → length q ≡ 16 → length r ≡ 16 → length t ≡ 16
-    → a ≡ zip2 bit_xor p (drop 8 none ++ take 8 p) → sum ≡ zip2 bit_xor (zip2 bit_xor q (drop 8 a ++ take 8 none)) (drop 10 none ++ take 10 a) → b ≡ zip2 bit_xor sum (drop 8 none ++ take 8 sum)
-    → part_of 0 (zip2 bit_xor (zip2 bit_xor (zip2 bit_xor r (drop 8 b ++ take 8 none)) (drop 10 a ++ take 10 b)) a ++ zip2 bit_xor (zip2 bit_xor t (drop 10 b ++ take 10 none)) b)
+    → a ≡ zip2 bit_xor p (drop 8 zero_slice ++ take 8 p) → sum ≡ zip2 bit_xor (zip2 bit_xor q (drop 8 a ++ take 8 zero_slice)) (drop 10 zero_slice ++ take 10 a) → b ≡ zip2 bit_xor sum (drop 8 zero_slice ++ take 8 sum)
+    → part_of 0 (zip2 bit_xor (zip2 bit_xor (zip2 bit_xor r (drop 8 b ++ take 8 zero_slice)) (drop 10 a ++ take 10 b)) a ++ zip2 bit_xor (zip2 bit_xor t (drop 10 b ++ take 10 zero_slice)) b)
     ≡ part_of 0 (p ++ (q ++ (r ++ t)))
 late_two p q r t a b sum long_a long_b long_p long_q long_r long_t is_a is_sum is_b =
     let long_sum : length sum ≡ 16 = ap length is_sum ∙ simp (length-sum, length-across, long_a, long_q) in
@@ -45,31 +45,31 @@ late_two p q r t a b sum long_a long_b long_p long_q long_r long_t is_a is_sum i
     let added : part_of 32 sum ≡ bit_xor (bit_xor (part_of 32 q) (part_of 40 (drop 8 a))) (part_of 32 (take 10 a)) = ap (part_of 32) is_sum ∙ simp (slices, long_a, long_q) in
     let less = sym (xor_moved (part_of 32 sum) (bit_xor (part_of 32 q) (part_of 40 (drop 8 a))) (part_of 32 (take 10 a)) added) in
     let of_q = xor_moved (bit_xor (part_of 32 sum) (part_of 32 (take 10 a))) (part_of 32 q) (part_of 40 (drop 8 a)) less in
-    let long_rb : length (zip2 bit_xor r (drop 8 b ++ take 8 none)) ≡ 16 = simp (length-sum, length-across, long_b, long_r) in
-    let third : part_of 16 (zip2 bit_xor (zip2 bit_xor (zip2 bit_xor r (drop 8 b ++ take 8 none)) (drop 10 a ++ take 10 b)) a) ≡ bit_xor (bit_xor (bit_xor (part_of 16 r) (part_of 24 (drop 8 b))) (bit_xor (part_of 26 (drop 10 a)) (part_of 16 (take 10 b)))) (part_of 16 a) =
+    let long_rb : length (zip2 bit_xor r (drop 8 b ++ take 8 zero_slice)) ≡ 16 = simp (length-sum, length-across, long_b, long_r) in
+    let third : part_of 16 (zip2 bit_xor (zip2 bit_xor (zip2 bit_xor r (drop 8 b ++ take 8 zero_slice)) (drop 10 a ++ take 10 b)) a) ≡ bit_xor (bit_xor (bit_xor (part_of 16 r) (part_of 24 (drop 8 b))) (bit_xor (part_of 26 (drop 10 a)) (part_of 16 (take 10 b)))) (part_of 16 a) =
     simp (slices, long_a, long_b, long_r, long_rb) in
-    let fourth : part_of 0 (zip2 bit_xor (zip2 bit_xor t (drop 10 b ++ take 10 none)) b) ≡ bit_xor (bit_xor (part_of 0 t) (part_of 10 (drop 10 b))) (part_of 0 b) = simp (slices, long_b, long_t) in
-    let long_fourth : length (zip2 bit_xor (zip2 bit_xor t (drop 10 b ++ take 10 none)) b) ≡ 16 = simp (length-sum, length-across, long_b, long_t) in
-    part-two 0 (zip2 bit_xor (zip2 bit_xor (zip2 bit_xor r (drop 8 b ++ take 8 none)) (drop 10 a ++ take 10 b)) a) (zip2 bit_xor (zip2 bit_xor t (drop 10 b ++ take 10 none)) b) long_fourth
+    let fourth : part_of 0 (zip2 bit_xor (zip2 bit_xor t (drop 10 b ++ take 10 zero_slice)) b) ≡ bit_xor (bit_xor (part_of 0 t) (part_of 10 (drop 10 b))) (part_of 0 b) = simp (slices, long_b, long_t) in
+    let long_fourth : length (zip2 bit_xor (zip2 bit_xor t (drop 10 b ++ take 10 zero_slice)) b) ≡ 16 = simp (length-sum, length-across, long_b, long_t) in
+    part-two 0 (zip2 bit_xor (zip2 bit_xor (zip2 bit_xor r (drop 8 b ++ take 8 zero_slice)) (drop 10 a ++ take 10 b)) a) (zip2 bit_xor (zip2 bit_xor t (drop 10 b ++ take 10 zero_slice)) b) long_fourth
     ∙ rw (third, fourth, part-four 0 p q r t long_q long_r long_t, of_p, of_q, of_sum)
     (xor_two (part_of 40 (drop 8 a)) (part_of 32 (take 10 a)) (part_of 26 (drop 10 a)) (part_of 16 a) (part_of 24 (drop 8 b)) (part_of 16 (take 10 b)) (part_of 10 (drop 10 b)) (part_of 0 b) (part_of 16 r) (part_of 0 t))
 
 pub two_of_four : (p q r t : List ℕ) → length p ≡ 16 → length q ≡ 16 → length r ≡ 16 → length t ≡ 16
-    → (let a = zip2 bit_xor p (drop 8 none ++ take 8 p) in
-    let sum = zip2 bit_xor (zip2 bit_xor q (drop 8 a ++ take 8 none)) (drop 10 none ++ take 10 a) in
-    let b = zip2 bit_xor sum (drop 8 none ++ take 8 sum) in
-    part_of 0 (zip2 bit_xor (zip2 bit_xor (zip2 bit_xor r (drop 8 b ++ take 8 none)) (drop 10 a ++ take 10 b)) a ++ zip2 bit_xor (zip2 bit_xor t (drop 10 b ++ take 10 none)) b)
+    → (let a = zip2 bit_xor p (drop 8 zero_slice ++ take 8 p) in
+    let sum = zip2 bit_xor (zip2 bit_xor q (drop 8 a ++ take 8 zero_slice)) (drop 10 zero_slice ++ take 10 a) in
+    let b = zip2 bit_xor sum (drop 8 zero_slice ++ take 8 sum) in
+    part_of 0 (zip2 bit_xor (zip2 bit_xor (zip2 bit_xor r (drop 8 b ++ take 8 zero_slice)) (drop 10 a ++ take 10 b)) a ++ zip2 bit_xor (zip2 bit_xor t (drop 10 b ++ take 10 zero_slice)) b)
     ≡ part_of 0 (p ++ (q ++ (r ++ t))))
 two_of_four p q r t long_p long_q long_r long_t =
-    let a = zip2 bit_xor p (drop 8 none ++ take 8 p) in
-    let sum = zip2 bit_xor (zip2 bit_xor q (drop 8 a ++ take 8 none)) (drop 10 none ++ take 10 a) in
-    let b = zip2 bit_xor sum (drop 8 none ++ take 8 sum) in
+    let a = zip2 bit_xor p (drop 8 zero_slice ++ take 8 p) in
+    let sum = zip2 bit_xor (zip2 bit_xor q (drop 8 a ++ take 8 zero_slice)) (drop 10 zero_slice ++ take 10 a) in
+    let b = zip2 bit_xor sum (drop 8 zero_slice ++ take 8 sum) in
     let long_a : length a ≡ 16 = simp (length-sum, length-across, long_p) in
     let long_sum : length sum ≡ 16 = simp (length-sum, length-across, long_a, long_q) in
     let long_b : length b ≡ 16 = simp (length-sum, length-across, long_sum) in
     late_two p q r t a b sum long_a long_b long_p long_q long_r long_t refl refl refl
 
--- one of two
+-- one of two; a number in a name, as in `t12` and `x12`, is how many octets are taken from the front
 
 xor_one : (p t12 t8 t5 t4 t1 c d l : ℕ) → bit_xor (bit_xor (bit_xor p t12) (bit_xor t8 t4)) t5 ≡ bit_xor (bit_xor (bit_xor (bit_xor (bit_xor t12 t8) t4) t1) c) (bit_xor (bit_xor (bit_xor t5 t1) d) l) → p ≡ bit_xor c (bit_xor d l)
 xor_one p t12 t8 t5 t4 t1 c d l e =
@@ -79,10 +79,10 @@ xor_one p t12 t8 t5 t4 t1 c d l e =
     xor_moved all p others same ∙ simp xor_sums
 
 -- An early slice goes: its octets are added to those 4, 11 and 16 places later.
-early_one : (x sum a : List ℕ) → length x ≡ 16 → length sum ≡ 16 → sum ≡ zip2 bit_xor x (drop 12 none ++ take 12 x) → a ≡ zip2 bit_xor (zip2 bit_xor sum (drop 8 none ++ take 8 sum)) (drop 5 none ++ take 5 x)
+early_one : (x sum a : List ℕ) → length x ≡ 16 → length sum ≡ 16 → sum ≡ zip2 bit_xor x (drop 12 zero_slice ++ take 12 x) → a ≡ zip2 bit_xor (zip2 bit_xor sum (drop 8 zero_slice ++ take 8 sum)) (drop 5 zero_slice ++ take 5 x)
     → part_of 16 x ≡ bit_xor (part_of 12 (drop 12 a)) (bit_xor (part_of 5 (drop 5 a)) (part_of 0 a))
 early_one x sum a e f is_sum is_a =
-    let eight = zip2 bit_xor sum (drop 8 none ++ take 8 sum) in
+    let eight = zip2 bit_xor sum (drop 8 zero_slice ++ take 8 sum) in
     let long_eight : length eight ≡ 16 = simp (length-sum, length-across, f) in
     let long : length a ≡ 16 = ap length is_a ∙ simp (length-sum, length-across, e, long_eight) in
     let x12 = part_of 16 (take 12 x) in
@@ -107,22 +107,22 @@ xor_last : (q a b c : ℕ) → bit_xor (bit_xor (bit_xor q a) b) c ≡ bit_xor (
 xor_last q a b c = simp xor_sums
 
 late_one : (p q a : List ℕ) → length q ≡ 16 → length a ≡ 16 → part_of 16 p ≡ bit_xor (part_of 12 (drop 12 a)) (bit_xor (part_of 5 (drop 5 a)) (part_of 0 a))
-    → part_of 0 (zip2 bit_xor (zip2 bit_xor (zip2 bit_xor q a) (drop 5 a ++ take 5 none)) (drop 12 a ++ take 12 none)) ≡ part_of 0 (p ++ q)
+    → part_of 0 (zip2 bit_xor (zip2 bit_xor (zip2 bit_xor q a) (drop 5 a ++ take 5 zero_slice)) (drop 12 a ++ take 12 zero_slice)) ≡ part_of 0 (p ++ q)
 late_one p q a long_q long_a early =
     let long_qa : length (zip2 bit_xor q a) ≡ 16 = simp (length-sum, long_q, long_a) in
-    let late : part_of 0 (zip2 bit_xor (zip2 bit_xor (zip2 bit_xor q a) (drop 5 a ++ take 5 none)) (drop 12 a ++ take 12 none)) ≡ bit_xor (bit_xor (bit_xor (part_of 0 q) (part_of 0 a)) (part_of 5 (drop 5 a))) (part_of 12 (drop 12 a)) =
+    let late : part_of 0 (zip2 bit_xor (zip2 bit_xor (zip2 bit_xor q a) (drop 5 a ++ take 5 zero_slice)) (drop 12 a ++ take 12 zero_slice)) ≡ bit_xor (bit_xor (bit_xor (part_of 0 q) (part_of 0 a)) (part_of 5 (drop 5 a))) (part_of 12 (drop 12 a)) =
     simp (slices, long_q, long_a, long_qa) in
     late
     ∙ xor_last (part_of 0 q) (part_of 0 a) (part_of 5 (drop 5 a)) (part_of 12 (drop 12 a))
     ∙ ap (λ n. bit_xor n (part_of 0 q)) (sym early) ∙ sym (part-two 0 p q long_q)
 
 pub one_of_two : (p q : List ℕ) → length p ≡ 16 → length q ≡ 16
-    → (let sum = zip2 bit_xor p (drop 12 none ++ take 12 p) in
-    let a = zip2 bit_xor (zip2 bit_xor sum (drop 8 none ++ take 8 sum)) (drop 5 none ++ take 5 p) in
-    part_of 0 (zip2 bit_xor (zip2 bit_xor (zip2 bit_xor q a) (drop 5 a ++ take 5 none)) (drop 12 a ++ take 12 none)) ≡ part_of 0 (p ++ q))
+    → (let sum = zip2 bit_xor p (drop 12 zero_slice ++ take 12 p) in
+    let a = zip2 bit_xor (zip2 bit_xor sum (drop 8 zero_slice ++ take 8 sum)) (drop 5 zero_slice ++ take 5 p) in
+    part_of 0 (zip2 bit_xor (zip2 bit_xor (zip2 bit_xor q a) (drop 5 a ++ take 5 zero_slice)) (drop 12 a ++ take 12 zero_slice)) ≡ part_of 0 (p ++ q))
 one_of_two p q long_p long_q =
-    let sum = zip2 bit_xor p (drop 12 none ++ take 12 p) in
-    let a = zip2 bit_xor (zip2 bit_xor sum (drop 8 none ++ take 8 sum)) (drop 5 none ++ take 5 p) in
+    let sum = zip2 bit_xor p (drop 12 zero_slice ++ take 12 p) in
+    let a = zip2 bit_xor (zip2 bit_xor sum (drop 8 zero_slice ++ take 8 sum)) (drop 5 zero_slice ++ take 5 p) in
     let long_sum : length sum ≡ 16 = simp (length-sum, length-across, long_p) in
     let long_a : length a ≡ 16 = simp (length-sum, length-across, long_p, long_sum) in
     late_one p q a long_q long_a (early_one p sum a long_p long_sum refl refl)

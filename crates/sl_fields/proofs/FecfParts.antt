@@ -8,20 +8,20 @@ use Rattle.sl_fields.specs.Fecf.{octet_bits, bits_of, bits_number, plus_bit, plu
 use Rattle.sl_fields.specs.FecfFolds.{part_of}
 use Rattle.sl_fields.proofs.Division.{ran, zeros, ones, ran-append, length-ran, plus_bits-zeros, bits_number-plus, fecf_of-register, register_of-ran, fecf_of-append}
 use Rattle.sl_fields.proofs.FecfSums.{plus_bits-false, plus_bits-append, ran-plus}
-use Rattle.sl_fields.proofs.FecfWordLemmas.{remainder-left}
+use Rattle.sl_fields.proofs.FecfWordLemmas.{remainder-left_over}
 
 -- ---- bits, and this many zeros after them
 
--- the number that the register holds, from zeros
-abbrev pub left : ℕ → List Bool → ℕ
-left count bits = bits_number (ran zeros (bits ++ replicate count false))
+-- what is left over: the number that a register of zeros holds after the bits and `count` zeros
+abbrev pub left_over : ℕ → List Bool → ℕ
+left_over count bits = bits_number (ran zeros (bits ++ replicate count false))
 
-pub left-nil : (count : ℕ) → left count [] ≡ 0
-left-nil zero = refl
-left-nil (suc count) = left-nil count
+pub left_over-nil : (count : ℕ) → left_over count [] ≡ 0
+left_over-nil zero = refl
+left_over-nil (suc count) = left_over-nil count
 
-pub left-append : (count : ℕ) (xs ys : List Bool) → left count (xs ++ ys) ≡ bit_xor (left (length ys + count) xs) (left count ys)
-left-append count xs ys =
+pub left_over-append : (count : ℕ) (xs ys : List Bool) → left_over count (xs ++ ys) ≡ bit_xor (left_over (length ys + count) xs) (left_over count ys)
+left_over-append count xs ys =
     let rest = ys ++ replicate count false in
     let none = replicate (length rest) false in
     let word = ran zeros xs in
@@ -34,11 +34,11 @@ left-append count xs ys =
     ∙ ap (λ l. bits_number (ran (plus_bits word zeros) l)) (sym (plus_bits-false (length rest) rest))
     ∙ ap bits_number (ran-plus word zeros none rest long refl (length-replicate (length rest) false))
     ∙ bits_number-plus (ran word none) (ran zeros rest) (length-ran word none long ∙ sym (length-ran zeros rest refl))
-    ∙ ap (λ l. bit_xor (bits_number l) (left count ys)) (sym (ran-append zeros xs none))
-    ∙ ap (λ n. bit_xor (left n xs) (left count ys)) many
+    ∙ ap (λ l. bit_xor (bits_number l) (left_over count ys)) (sym (ran-append zeros xs none))
+    ∙ ap (λ n. bit_xor (left_over n xs) (left_over count ys)) many
 
-pub left-plus : (count : ℕ) (xs ys : List Bool) → length xs ≡ length ys → left count (plus_bits xs ys) ≡ bit_xor (left count xs) (left count ys)
-left-plus count xs ys e =
+pub left_over-plus : (count : ℕ) (xs ys : List Bool) → length xs ≡ length ys → left_over count (plus_bits xs ys) ≡ bit_xor (left_over count xs) (left_over count ys)
+left_over-plus count xs ys e =
     let none = replicate count false in
     let same : length (xs ++ none) ≡ length (ys ++ none) = omega (arith, length-append xs none, length-append ys none) in
     ap (λ l. bits_number (ran zeros (plus_bits xs ys ++ l))) (sym (plus_bits-false count none))
@@ -46,8 +46,8 @@ left-plus count xs ys e =
     ∙ ap bits_number (ran-plus zeros zeros (xs ++ none) (ys ++ none) refl refl same)
     ∙ bits_number-plus (ran zeros (xs ++ none)) (ran zeros (ys ++ none)) (length-ran zeros (xs ++ none) refl ∙ sym (length-ran zeros (ys ++ none) refl))
 
-pub left-more : (first more : ℕ) (bits : List Bool) → left (first + more) bits ≡ left more (bits ++ replicate first false)
-left-more first more bits =
+pub left_over-more : (first more : ℕ) (bits : List Bool) → left_over (first + more) bits ≡ left_over more (bits ++ replicate first false)
+left_over-more first more bits =
     ap (λ l. bits_number (ran zeros (bits ++ l))) (sym (replicate-append-replicate first more false))
     ∙ ap (λ l. bits_number (ran zeros l)) (sym (append_assoc bits (replicate first false) (replicate more false)))
 
@@ -57,15 +57,15 @@ length-bits_of : (octets : List ℕ) → length (bits_of octets) ≡ 8 * length 
 length-bits_of [] = refl
 length-bits_of (octet ∷ octets) = omega (arith, length-bits_of octets)
 
-pub part-left : (later : ℕ) (octets : List ℕ) → part_of later octets ≡ left (8 * later) (bits_of octets)
+pub part-left_over : (later : ℕ) (octets : List ℕ) → part_of later octets ≡ left_over (8 * later) (bits_of octets)
 unfolding part_of
-part-left later octets = remainder-left (8 * later) (bits_of octets)
+part-left_over later octets = remainder-left_over (8 * later) (bits_of octets)
 
 pub part-nil : (later : ℕ) → part_of later [] ≡ 0
-part-nil later = part-left later [] ∙ left-nil (8 * later)
+part-nil later = part-left_over later [] ∙ left_over-nil (8 * later)
 
 pub part-zero : (later : ℕ) (octets : List ℕ) → part_of later (0 ∷ octets) ≡ part_of later octets
-part-zero later octets = part-left later (0 ∷ octets) ∙ sym (part-left later octets)
+part-zero later octets = part-left_over later (0 ∷ octets) ∙ sym (part-left_over later octets)
 
 pub part-zeros : (later count : ℕ) (octets : List ℕ) → part_of later (replicate count 0 ++ octets) ≡ part_of later octets
 part-zeros later zero octets = refl
@@ -78,12 +78,12 @@ part-none later (suc count) = part-zero later (replicate count 0) ∙ part-none 
 pub part-append : (later : ℕ) (xs ys : List ℕ) → part_of later (xs ++ ys) ≡ bit_xor (part_of (length ys + later) xs) (part_of later ys)
 part-append later xs ys =
     let count : length (bits_of ys) + 8 * later ≡ 8 * (length ys + later) = omega (arith, length-bits_of ys) in
-    part-left later (xs ++ ys)
-    ∙ ap (left (8 * later)) (flat_map-append octet_bits xs ys)
-    ∙ left-append (8 * later) (bits_of xs) (bits_of ys)
-    ∙ ap (λ n. bit_xor (left n (bits_of xs)) (left (8 * later) (bits_of ys))) count
-    ∙ ap (λ n. bit_xor n (left (8 * later) (bits_of ys))) (sym (part-left (length ys + later) xs))
-    ∙ ap (bit_xor (part_of (length ys + later) xs)) (sym (part-left later ys))
+    part-left_over later (xs ++ ys)
+    ∙ ap (left_over (8 * later)) (flat_map-append octet_bits xs ys)
+    ∙ left_over-append (8 * later) (bits_of xs) (bits_of ys)
+    ∙ ap (λ n. bit_xor (left_over n (bits_of xs)) (left_over (8 * later) (bits_of ys))) count
+    ∙ ap (λ n. bit_xor n (left_over (8 * later) (bits_of ys))) (sym (part-left_over (length ys + later) xs))
+    ∙ ap (bit_xor (part_of (length ys + later) xs)) (sym (part-left_over later ys))
 
 -- sums of octets
 
@@ -117,11 +117,11 @@ bits_of-plus (x ∷ xs) (y ∷ ys) e =
 pub part-plus : (later : ℕ) (xs ys : List ℕ) → length xs ≡ length ys → part_of later (zip2 bit_xor xs ys) ≡ bit_xor (part_of later xs) (part_of later ys)
 part-plus later xs ys e =
     let same : length (bits_of xs) ≡ length (bits_of ys) = omega (arith, length-bits_of xs, length-bits_of ys) in
-    part-left later (zip2 bit_xor xs ys)
-    ∙ ap (left (8 * later)) (bits_of-plus xs ys e)
-    ∙ left-plus (8 * later) (bits_of xs) (bits_of ys) same
-    ∙ ap (λ n. bit_xor n (left (8 * later) (bits_of ys))) (sym (part-left later xs))
-    ∙ ap (bit_xor (part_of later xs)) (sym (part-left later ys))
+    part-left_over later (zip2 bit_xor xs ys)
+    ∙ ap (left_over (8 * later)) (bits_of-plus xs ys e)
+    ∙ left_over-plus (8 * later) (bits_of xs) (bits_of ys) same
+    ∙ ap (λ n. bit_xor n (left_over (8 * later) (bits_of ys))) (sym (part-left_over later xs))
+    ∙ ap (bit_xor (part_of later xs)) (sym (part-left_over later ys))
 
 -- ---- the field
 
@@ -131,11 +131,11 @@ preset_by_84_CF octets =
     fecf_of-register octets
     ∙ register_of-ran (bits_of octets)
     ∙ ap (λ bits. bits_number (ran ones bits)) (sym (append-nil (bits_of octets)))
-    ∙ sym (part-left 0 (0x84 ∷ (0xCF ∷ octets)))
+    ∙ sym (part-left_over 0 (0x84 ∷ (0xCF ∷ octets)))
 
 -- FF FF turn the preset into a register of zeros
 pub zeros_by_FF_FF : (octets : List ℕ) → fecf_of (0xFF ∷ (0xFF ∷ octets)) ≡ part_of 0 octets
 zeros_by_FF_FF octets =
     fecf_of-append (0xFF ∷ (0xFF ∷ [])) octets
     ∙ ap (λ bits. bits_number (ran zeros bits)) (sym (append-nil (bits_of octets)))
-    ∙ sym (part-left 0 octets)
+    ∙ sym (part-left_over 0 octets)

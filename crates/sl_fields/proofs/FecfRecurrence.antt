@@ -7,7 +7,7 @@ use Rattle.std.proofs.lemmas.List.{length-append, length-replicate}
 use Rattle.std.proofs.Math.Nat.{pow-suc, mul_assoc, mul_comm}
 use Rattle.sl_fields.specs.Fecf.{bits_of, plus_bits, fecf_of}
 use Rattle.sl_fields.specs.FecfFolds.{part_of, plus_octets, with_run_at, RunsMayMove}
-use Rattle.sl_fields.proofs.FecfParts.{left, left-nil, left-append, left-plus, left-more, part-left, part-zeros, part-append, part-none, part-plus, preset_by_84_CF}
+use Rattle.sl_fields.proofs.FecfParts.{left_over, left_over-nil, left_over-append, left_over-plus, left_over-more, part-left_over, part-zeros, part-append, part-none, part-plus, preset_by_84_CF}
 use Rattle.sl_fields.proofs.Xor.{xor_none, xor_sums, xor_moved, xor_threes}
 
 -- Numbers of which each is the sum of three earlier ones: 4, 11 and 16 places before, or a multiple of these.
@@ -40,24 +40,24 @@ powers (suc power) times f h =
 -- a bit
 
 -- The generator is divided to zeros, so the parts of its four terms cancel out.
-one_recurs : (n : ℕ) → left (16 + n) (true ∷ []) ≡ bit_xor (left (12 + n) (true ∷ [])) (bit_xor (left (5 + n) (true ∷ [])) (left n (true ∷ [])))
+one_recurs : (n : ℕ) → left_over (16 + n) (true ∷ []) ≡ bit_xor (left_over (12 + n) (true ∷ [])) (bit_xor (left_over (5 + n) (true ∷ [])) (left_over n (true ∷ [])))
 one_recurs n =
     let one = replicate 16 false in
     let x16 = true ∷ one in
     let x12 = false ∷ (false ∷ (false ∷ (false ∷ (true ∷ replicate 12 false)))) in
     let x5 = replicate 11 false ++ (true ∷ replicate 5 false) in
     let x0 = replicate 16 false ++ (true ∷ []) in
-    let gone : 0 ≡ left n (plus_bits x16 (plus_bits x12 (plus_bits x5 x0))) = sym (left-nil n) in
-    let sum = gone ∙ left-plus n x16 (plus_bits x12 (plus_bits x5 x0)) refl
-    ∙ ap (bit_xor (left n x16)) (left-plus n x12 (plus_bits x5 x0) refl
-    ∙ ap (bit_xor (left n x12)) (left-plus n x5 x0 refl)) in
-    left-more 16 n (true ∷ [])
-    ∙ xor_moved 0 (left n x16) (bit_xor (left n x12) (bit_xor (left n x5) (left n x0))) sum
-    ∙ ap (λ k. bit_xor k (bit_xor (left n x5) (left n x0))) (sym (left-more 12 n (true ∷ [])))
-    ∙ ap (λ k. bit_xor (left (12 + n) (true ∷ [])) (bit_xor k (left n x0))) (sym (left-more 5 n (true ∷ [])))
+    let gone : 0 ≡ left_over n (plus_bits x16 (plus_bits x12 (plus_bits x5 x0))) = sym (left_over-nil n) in
+    let sum = gone ∙ left_over-plus n x16 (plus_bits x12 (plus_bits x5 x0)) refl
+    ∙ ap (bit_xor (left_over n x16)) (left_over-plus n x12 (plus_bits x5 x0) refl
+    ∙ ap (bit_xor (left_over n x12)) (left_over-plus n x5 x0 refl)) in
+    left_over-more 16 n (true ∷ [])
+    ∙ xor_moved 0 (left_over n x16) (bit_xor (left_over n x12) (bit_xor (left_over n x5) (left_over n x0))) sum
+    ∙ ap (λ k. bit_xor k (bit_xor (left_over n x5) (left_over n x0))) (sym (left_over-more 12 n (true ∷ [])))
+    ∙ ap (λ k. bit_xor (left_over (12 + n) (true ∷ [])) (bit_xor k (left_over n x0))) (sym (left_over-more 5 n (true ∷ [])))
 
-bits_recur : (bits : List Bool) (n : ℕ) → left (16 + n) bits ≡ bit_xor (left (12 + n) bits) (bit_xor (left (5 + n) bits) (left n bits))
-bits_recur [] n = rw (left-nil (16 + n), left-nil (12 + n), left-nil (5 + n), left-nil n) refl
+bits_recur : (bits : List Bool) (n : ℕ) → left_over (16 + n) bits ≡ bit_xor (left_over (12 + n) bits) (bit_xor (left_over (5 + n) bits) (left_over n bits))
+bits_recur [] n = rw (left_over-nil (16 + n), left_over-nil (12 + n), left_over-nil (5 + n), left_over-nil n) refl
 bits_recur (false ∷ bits) n = bits_recur bits n
 bits_recur (true ∷ bits) n =
     let one = true ∷ [] in
@@ -65,20 +65,20 @@ bits_recur (true ∷ bits) n =
     let a : k + (16 + n) ≡ 16 + (k + n) = omega arith in
     let b : k + (12 + n) ≡ 12 + (k + n) = omega arith in
     let c : k + (5 + n) ≡ 5 + (k + n) = omega arith in
-    rw (left-append (16 + n) one bits, left-append (12 + n) one bits, left-append (5 + n) one bits, left-append n one bits, a, b, c, one_recurs (k + n), bits_recur bits n)
-    (xor_threes (left (12 + (k + n)) one) (left (5 + (k + n)) one) (left (k + n) one) (left (12 + n) bits) (left (5 + n) bits) (left n bits))
+    rw (left_over-append (16 + n) one bits, left_over-append (12 + n) one bits, left_over-append (5 + n) one bits, left_over-append n one bits, a, b, c, one_recurs (k + n), bits_recur bits n)
+    (xor_threes (left_over (12 + (k + n)) one) (left_over (5 + (k + n)) one) (left_over (k + n) one) (left_over (12 + n) bits) (left_over (5 + n) bits) (left_over n bits))
 
 -- octets
 
 pub part-recurs : (power later : ℕ) (octets : List ℕ) → part_of (16 * 2 ^ power + later) octets ≡ bit_xor (part_of (12 * 2 ^ power + later) octets) (bit_xor (part_of (5 * 2 ^ power + later) octets) (part_of later octets))
 part-recurs power later octets =
     let bits = bits_of octets in
-    let base : Recurs 1 (λ n. left n bits) = record { law = bits_recur bits } in
-    let h = powers power 8 (λ n. left n bits) (powers 3 1 (λ n. left n bits) base) in
+    let base : Recurs 1 (λ n. left_over n bits) = record { law = bits_recur bits } in
+    let h = powers power 8 (λ n. left_over n bits) (powers 3 1 (λ n. left_over n bits) base) in
     let a : 8 * (16 * 2 ^ power + later) ≡ 16 * (8 * 2 ^ power) + 8 * later = omega arith in
     let b : 8 * (12 * 2 ^ power + later) ≡ 12 * (8 * 2 ^ power) + 8 * later = omega arith in
     let c : 8 * (5 * 2 ^ power + later) ≡ 5 * (8 * 2 ^ power) + 8 * later = omega arith in
-    rw (part-left (16 * 2 ^ power + later) octets, part-left (12 * 2 ^ power + later) octets, part-left (5 * 2 ^ power + later) octets, part-left later octets, a, b, c)
+    rw (part-left_over (16 * 2 ^ power + later) octets, part-left_over (12 * 2 ^ power + later) octets, part-left_over (5 * 2 ^ power + later) octets, part-left_over later octets, a, b, c)
     (h.law (8 * later))
 
 -- ---- a run of octets that is added to later ones

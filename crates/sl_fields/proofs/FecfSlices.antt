@@ -10,8 +10,8 @@ use Rattle.sl_fields.specs.FecfFolds.{part_of}
 use Rattle.sl_fields.proofs.FecfParts.{part-append, part-nil, part-zero, part-none, part-plus}
 use Rattle.sl_fields.proofs.Xor.{xor_none}
 
-abbrev pub none : List ℕ
-none = replicate 16 0
+abbrev pub zero_slice : List ℕ
+zero_slice = replicate 16 0
 
 -- sixteen octets of two slices end to end
 pub picked : (from : ℕ) (left right : List ℕ) → from ≤ 16 → length left ≡ 16 → length right ≡ 16 → pick_l 0 (left ++ right) (range_with_len from 16) ≡ drop from left ++ take from right
@@ -57,8 +57,8 @@ part-cut from rest later xs h e =
     let long : length (drop from xs) ≡ rest = omega (arith, length-drop from xs) in
     ap (part_of later) (sym (take-append-drop from xs)) ∙ part-append later (take from xs) (drop from xs) ∙ ap (λ n. bit_xor (part_of (n + later) (take from xs)) (part_of later (drop from xs))) long
 
--- The first octets of a slice to which the octets of a slice are added, each some places later. These places are the
--- zeros that `none` has from `from` on.
+-- The first octets of a slice to which the octets of a slice are added, each 16 - `from` places later: so many zeros has
+-- `drop from zero_slice`.
 
 take-zip2 : (n : ℕ) (xs ys : List ℕ) → take n (zip2 bit_xor xs ys) ≡ zip2 bit_xor (take n xs) (take n ys)
 take-zip2 zero xs ys = refl
@@ -77,10 +77,10 @@ part-later (suc n) zero (suc m) later ys =
     let same : n - (m - 0) ≡ suc n - (suc m - 0) = omega arith in
     part-zero later (take n (replicate m 0 ++ ys)) ∙ part-later n zero m later ys ∙ ap (λ k. part_of later (take k ys)) same
 
-pub part-first : (n from later : ℕ) (xs ys : List ℕ) → leb n 16 ≡ true → leb from 16 ≡ true → length xs ≡ 16 → length ys ≡ 16 → part_of later (take n (zip2 bit_xor xs (drop from none ++ take from ys))) ≡ bit_xor (part_of later (take n xs)) (part_of later (take (n - (16 - from)) ys))
+pub part-first : (n from later : ℕ) (xs ys : List ℕ) → leb n 16 ≡ true → leb from 16 ≡ true → length xs ≡ 16 → length ys ≡ 16 → part_of later (take n (zip2 bit_xor xs (drop from zero_slice ++ take from ys))) ≡ bit_xor (part_of later (take n xs)) (part_of later (take (n - (16 - from)) ys))
 part-first n from later xs ys h k e f =
-    let both = drop from none ++ take from ys in
-    let long : length both ≡ 16 = length-across from none ys k refl f in
+    let both = drop from zero_slice ++ take from ys in
+    let long : length both ≡ 16 = length-across from zero_slice ys k refl f in
     let same : length (take n xs) ≡ length (take n both) = omega (arith, length-take n xs, length-take n both) in
     ap (part_of later) (take-zip2 n xs both)
     ∙ part-plus later (take n xs) (take n both) same

@@ -64,8 +64,8 @@ octet_bits-plus bits octet e h =
 -- words
 
 -- bits with zeros after them, divided without preset: what a register of zeros holds after them
-pub remainder-left : (count : ℕ) (message : List Bool) → bits_number (remainder (message ++ replicate (count + 16) false)) ≡ bits_number (ran zeros (message ++ replicate count false))
-remainder-left count message =
+pub remainder-left_over : (count : ℕ) (message : List Bool) → bits_number (remainder (message ++ replicate (count + 16) false)) ≡ bits_number (ran zeros (message ++ replicate count false))
+remainder-left_over count message =
     let bits = message ++ replicate count false in
     let whole : message ++ replicate (count + 16) false ≡ bits ++ zeros = ap (λ rest. message ++ rest) (sym (replicate-append-replicate count 16 false)) ∙ sym (append_assoc message (replicate count false) zeros) in
     let steps : length (bits ++ zeros) - 16 ≡ length bits = omega (arith, length-append bits zeros) in
@@ -76,7 +76,7 @@ remainder-left count message =
 
 word_of-ran : (octet : ℕ) → word_of 0 octet ≡ bits_number (ran zeros (octet_bits octet))
 unfolding part_of
-word_of-ran octet = remainder-left 0 (octet_bits octet)
+word_of-ran octet = remainder-left_over 0 (octet_bits octet)
 
 -- the table has the words: computed
 pub are_words : AreWords WORDS

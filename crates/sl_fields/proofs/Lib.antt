@@ -34,8 +34,6 @@ pub mod Flags
 pub mod HeaderFacts
 -- headers as fields of given widths
 pub mod HeaderLayout
--- texts that a separator joins, and how they are split
-pub mod JoinedLemmas
 -- octets and their number in base 256
 pub mod Octets
 -- the layout of a packet's header
@@ -52,6 +50,8 @@ pub mod TmHeaderLemmas
 pub mod Xor
 -- ---- for the crates above
 
+-- texts that a separator joins, and how they are split (`DecimalLemmas` has `HasNo` of it)
+pub mod JoinedLemmas
 -- a property of each element, filters, one more element
 pub mod ListLemmas
 -- numbers that never fall, and some that do

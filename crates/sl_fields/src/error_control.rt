@@ -39,8 +39,8 @@ pub fn fecf(octets: &[u8]) -> u16
         };
         return number(after_octets(preset, octets));
     }
-    // Division from zeros gives the same, since `folded` puts 84 CF in front. (Only for the proof:
-    // `TakesIn` asks for a message that leaves zeros, which is FF FF.)
+    // `folded` puts 84 CF before the message, and folds then. So its slice is divided from zeros.
+    // (Only for the proof: `TakesIn` asks for a message that leaves zeros, which is FF FF.)
     let zeros = Register { high: 0, low: 0 };
     number(after_octets(zeros, &folded(octets).to_array()))
 }

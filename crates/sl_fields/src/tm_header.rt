@@ -97,7 +97,7 @@ impl TmHeader {
     ///
     /// `spacecraft` is 0 to 1023 and `vc` 0 to 7. `mc` is the master channel frame count and `vcc`
     /// the virtual channel frame count, both 0 to 255. `first` is the first header pointer, 0 to
-    /// 2047: 2046 where the frame has only idle data, 2047 where no packet starts in the frame.
+    /// 2047: 2047 where no packet starts in the frame. 2046, for only idle data, isn't refused.
     pub fn of_packets(spacecraft: u16, vc: u8, mc: u8, vcc: u8, first: u16) -> TmHeader
         requires spacecraft { spacecraft ≤ 1023 }
         requires vc { vc ≤ 7 }

@@ -13,7 +13,7 @@ use Rattle.sl_tmframe.specs.TmFrame.{TmFormat, TmParts, TmView, DataField, Packe
 use Rattle.sl_tmframe.specs.PacketFrame.{FitFrame, field_room_of, pointer_value, packet_frame, packet_view}
 use Rattle.sl_tmframe.specs.declared.tm_frame.TmSkip.{TmSkip}
 use Rattle.sl_tmframe.specs.declared.tm_frame.TmSkip.TheVariants.{Fecf, Version, Spacecraft}
-use Rattle.sl_tmframe.proofs.PartLemmas.{only_parts}
+use Rattle.sl_tmframe.proofs.PartLemmas.{parts_once}
 
 -- the first header pointer of a frame that is made: 2047 for `None`
 pub pointer_is : (first : Option ℕ) → unwrap_or first 2047 ≡ pointer_value first
@@ -44,10 +44,11 @@ class_is spacecraft vc mc vcc None field room most fills inside = refl
 class_is spacecraft vc mc vcc (Some first) field room most fills inside =
     rw (ne_eqb first 2046 (λ e. omega arith), ne_eqb first 2047 (λ e. omega arith), lt-ltb first (length field) (omega arith)) refl
 
--- the reason to skip a frame under this header with a right error control field, and the frame's view
+-- the reason to skip a frame under this header with a right error control field
 abbrev reason_by : ℕ → TmFields → Option TmSkip
 reason_by spacecraft h = if not (h.version == 0) then Some Version else if not (h.spacecraft == spacecraft) then Some Spacecraft else None
 
+-- the view of these parts, under this header
 abbrev shown_by : TmFields → TmParts → TmView
 shown_by h p =
     record {
@@ -94,7 +95,7 @@ module _ (format : TmFormat) (spacecraft vc mc vcc : ℕ) (first : Option ℕ) (
       with_fecf_whole format (tm_octets h) field (omega arith) (length-octets_of 6 (tm_fields h)) fit.fills
 
   made_of_parts : tm_parts_of format frame ≡ made_of
-  made_of_parts = only_parts format frame made_of (record {
+  made_of_parts = parts_once format frame made_of (record {
     whole = length-packet_frame;
     in_order = ap (λ l. l ++ fecf_part format.fecf (tm_octets h ++ field)) (sym (append-nil (tm_octets h ++ field)));
     header = length-octets_of 6 (tm_fields h);

@@ -23,7 +23,7 @@ either_le true n = omega arith
 either_le false n = omega arith
 
 pub has_parts : (format : TmFormat) (frame : List ℕ) → 12 ≤ format.len → length frame ≡ format.len → ArePartsOf format frame (tm_parts_of format frame)
-has_parts format frame room whole =
+has_parts format frame least whole =
     let control : control_len frame ≤ 4 = either_le (tm_header_of frame).control 4 in
     let fecf : fecf_len format.fecf ≤ 2 = fecf_len_le format.fecf in
     let field : field_len format frame ≡ length frame - 6 - control_len frame - fecf_len format.fecf = refl in
@@ -63,8 +63,8 @@ same_parts : (h h' f f' c c' e e' : List ℕ) → h ≡ h' → f ≡ f' → c �
     → parts h f c e ≡ parts h' f' c' e'
 same_parts h h' f f' c c' e e' p q r s = rw (p, q, r, s) refl
 
-pub only_parts : (format : TmFormat) (frame : List ℕ) (p : TmParts) → ArePartsOf format frame p → tm_parts_of format frame ≡ p
-only_parts format frame p a =
+pub parts_once : (format : TmFormat) (frame : List ℕ) (p : TmParts) → ArePartsOf format frame p → tm_parts_of format frame ≡ p
+parts_once format frame p a =
     let cut = cut_parts p.header p.field p.control p.fecf in
     let header : take 6 frame ≡ p.header = ap (λ n. take n frame) (sym a.header) ∙ ap (take (length p.header)) a.in_order ∙ cut.0 in
     let control : control_len frame ≡ length p.control = ap (λ h. if (tm_header h).control then 4 else 0) header ∙ sym a.control in

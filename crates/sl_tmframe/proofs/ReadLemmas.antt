@@ -10,12 +10,13 @@ use Rattle.sl_fields.specs.TmHeader.{TmFields, tm_header}
 use Rattle.sl_tmframe.specs.declared.tm_frame.TmSkip.{TmSkip}
 use Rattle.sl_tmframe.specs.declared.tm_frame.TmSkip.TheVariants.{Fecf, Version, Spacecraft}
 use Rattle.sl_tmframe.specs.TmFrame.{TmFormat, TmParts, ArePartsOf, HasReason, order_of, DataField, Packets, Idle, Opaque, IsOffset, PointsTo, HasClass, TmView, ShowsControl, Shows, AreReadAs, EachIsRead, IsReadOnce, tm_parts_of, skip_reason, class_of, view_of, read_as, tm_frame}
-use Rattle.sl_tmframe.proofs.PartLemmas.{has_parts, only_parts}
+use Rattle.sl_tmframe.proofs.PartLemmas.{has_parts, parts_once}
 use Rattle.sl_fields.proofs.Tells.{Tells, tells_other}
 
 -- ---- the first reason
 
--- an error control field can be wrong only where frames have one
+-- The test on the frame's octets decides the reason `Fecf`, which speaks of its parts. `long` is the test of the
+-- length, `a` the field and `b` the remainder by the octets, `a'` and `b'` the same by the parts.
 tells_wrong : (has long : Bool) (a a' b b' : ℕ) → (has ≡ true → (long ≡ true) × (a ≡ a') × (b ≡ b'))
     → Tells (has && not (long && a == b)) ((has ≡ true) × (a' ≢ b'))
 tells_wrong false long a a' b b' h = λ p. cc
@@ -76,6 +77,7 @@ module _ (Has : TmSkip → Type 0) where
 
 -- ---- the class
 
+-- the header with these three fields, so that a proof can go by their cases
 abbrev header_with : Bool → Bool → ℕ → TmFields → TmFields
 header_with secondary sync first h =
     record {
@@ -235,13 +237,13 @@ one_read format spacecraft p (Err reason) (Ok w) s t = absurd (t.0 reason s.0)
 one_read format spacecraft p (Err r) (Err q) s t = ap Err (one_first (HasReason format spacecraft p) r q s t)
 
 pub each_is_read : EachIsRead
-each_is_read format spacecraft frame room whole =
-    let a = has_parts format frame room whole in
+each_is_read format spacecraft frame least whole =
+    let a = has_parts format frame least whole in
     record { parts = a; reading = are_read format spacecraft frame a }
 
 pub is_read_once : IsReadOnce
 is_read_once format spacecraft frame p read r =
-    let same = only_parts format frame p r.parts in
+    let same = parts_once format frame p r.parts in
     let a : ArePartsOf format frame (tm_parts_of format frame) = subst (ArePartsOf format frame) (sym same) r.parts in
     let its : AreReadAs format spacecraft p (tm_frame format spacecraft frame) =
     subst (λ (q : TmParts). AreReadAs format spacecraft q (tm_frame format spacecraft frame)) same (are_read format spacecraft frame a) in

@@ -12,7 +12,7 @@ use Rattle.sl_tmframe.specs.declared.tm_frame.TmSkip.TheVariants.{Fecf, Version,
 
 -- The managed format of a physical channel's frames: the length of every frame, and whether the
 -- last two octets of a frame are a frame error control field. All frames of a recording have this
--- one length: mission profile.
+-- one length: mission profile. In code this is a `TmShape`.
 pub record TmFormat : Type 0 where
   pub len : ℕ
   pub fecf : Bool
@@ -219,6 +219,7 @@ pub record IsInRange (view : TmView) : Type 0 where
 -- ---- laws
 
 -- Octets of the format's length, if this is 12 or more, have the parts that `tm_parts_of` computes.
+-- All parts but the data field have at most 12 octets together.
 abbrev pub EachHasParts : Type 0
 EachHasParts =
     (format : TmFormat) (frame : List ℕ) → 12 ≤ format.len → length frame ≡ format.len

@@ -54,6 +54,7 @@ pub fn push_tm(
     ensures capacity { vec_capacity out.old ≤ vec_capacity out.new }
 {
     let start = out.len();
+    // Memory may be refused here alone, since there is room for the whole frame afterwards.
     out.reserve(usize::from(shape.len))?;
     out.extend_from_slice(&frame_header(spacecraft, vc, mc, vcc, first))?;
     out.extend_from_slice(octets)?;

@@ -80,6 +80,7 @@ impl<'a> TmFrame<'a> {
         requires whole { length octets.now ≡ shape.now.len }
         ensures { result ≡ tm_frame shape.now spacecraft octets.now }
     {
+        // Read before the calls: once a field of `shape` is read, the proof has 32 <= len <= 2048.
         let has_fecf = shape.fecf;
         let (header, behind) = split_header(octets);
         if let Some(reason) = skip_of(shape, &header, spacecraft, octets) {

@@ -65,7 +65,8 @@ impl TmFramer {
     /// then taken, and it is left empty.
     pub fn next(&mut self, piece: &mut &[u8]) -> Option<&[u8]>
         // The state once the returned frame isn't borrowed any more: no octet is held after a
-        // frame. Without a frame the piece was added to the octets that were held.
+        // frame. Without a frame the piece was added to the octets that were held. `Rests R s P`,
+        // of std's `specs/Io/BufRead.antt`, says that P holds then of what `s` points to.
         ensures* taken { sem 𝓛 (Rests the_row self.entry (HasTaken self.old piece.old.now result)) }
 
         // A frame has the octets that were taken after the last frame, and then octets from the
@@ -130,13 +131,13 @@ impl TmFramer {
     }
 }
 
-// Writes these octets over those of `room` from this offset on. The octets before the offset stay,
-// and so does the length of `room`.
-fn write_at(room: &mut [u8], offset: usize, octets: &[u8])
-    requires { offset + length octets.now ≤ length room.old }
-    ensures front { take (offset + length octets.now) room.new
-        ≡ take offset room.old ++ octets.now }
-    ensures len { length room.new ≡ length room.old }
+// Writes these octets over those of `array` from this offset on. The octets before the offset stay,
+// and so does the length of `array`.
+fn write_at(array: &mut [u8], offset: usize, octets: &[u8])
+    requires { offset + length octets.now ≤ length array.old }
+    ensures front { take (offset + length octets.now) array.new
+        ≡ take offset array.old ++ octets.now }
+    ensures len { length array.new ≡ length array.old }
 {
-    room[offset..offset + octets.len()].copy_from_slice(octets);
+    array[offset..offset + octets.len()].copy_from_slice(octets);
 }

@@ -5,5 +5,5 @@ pub returns-clause-each : goal.returns-clause-each
 returns-clause-each c = is_delimited
 
 pub returns-clause-once : goal.returns-clause-once
-returns-clause-once c len recording frames remainder some d =
-    (only_frames len recording frames remainder some d, only_remainder len recording frames remainder some d)
+returns-clause-once c len recording frames remainder positive d =
+    (only_frames len recording frames remainder positive d, only_remainder len recording frames remainder positive d)

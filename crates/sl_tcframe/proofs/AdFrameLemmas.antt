@@ -13,12 +13,12 @@ use Rattle.sl_tcframe.specs.declared.tc_frame.TcSkip.{TcSkip}
 use Rattle.sl_tcframe.specs.declared.tc_frame.TcSkip.TheVariants.{Fecf, Version, Spacecraft, Long, Kind, Empty}
 use Rattle.sl_tcframe.specs.TcFrame.{TcFormat, TcParts, ArePartsOf, Ad, tc_header_of, tc_parts_of, is_cut, content_of, unit_content, early_reason, read_as, tc_frame}
 use Rattle.sl_tcframe.specs.AdFrame.{FitAdFrame, ad_len, ad_frame}
-use Rattle.sl_tcframe.proofs.PartLemmas.{only_parts, parts_cut}
+use Rattle.sl_tcframe.proofs.PartLemmas.{parts_once, parts_cut}
 
 -- a data field of one octet or more under a header of type AD
 unit_is : (h : TcFields) (field : List ℕ) → h.bypass ≡ false → 0 < length field → unit_content h field ≡ Some (Ad h.ns field)
-unit_is h [] kept some = absurd (omega arith)
-unit_is h (octet ∷ octets) kept some = rw kept refl
+unit_is h [] not_bypassed some = absurd (omega arith)
+unit_is h (octet ∷ octets) not_bypassed some = rw not_bypassed refl
 
 -- the reason to skip a frame under this header, with this data field and a right error control field
 abbrev reason_by : ℕ → ℕ → ℕ → TcFields → List ℕ → Option TcSkip
@@ -84,7 +84,7 @@ module _ (format : TcFormat) (spacecraft vc ns : ℕ) (unit : List ℕ) (fit : F
 
   pub ad_frame_back : tc_frame format spacecraft frame ≡ Ok (record { vc = vc; content = Ad ns unit })
   ad_frame_back =
-      let parts = only_parts format frame made_of made_of_parts in
+      let parts = parts_once format frame made_of made_of_parts in
       let header : tc_header_of frame ≡ h = ap (λ (p : TcParts). tc_header p.header) parts ∙ header_back in
       let field : (tc_parts_of format frame).field ≡ unit = ap (λ (p : TcParts). p.field) parts in
       let good = with_fecf_is_good format.fecf covered (omega (arith, length-covered)) in

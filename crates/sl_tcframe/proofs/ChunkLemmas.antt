@@ -9,7 +9,7 @@ use Rattle.sl_fields.specs.Field.{IsOctets}
 use Rattle.sl_tcframe.specs.TcDelimited.{IsTcDelimited, front_len, tc_frames_of, tc_remainder_of}
 use Rattle.sl_tcframe.specs.TcFrame.{TcFormat, is_cut, stated_frame_len}
 use Rattle.sl_tcframe.specs.TcFraming.{BeginsWith, FrameFront, Incomplete, BelowLeast, WholeFrame, IsRest, len_by_four, front_of, TcFraming, YieldsFrame, YieldsNone, YieldsFrames, ended, yielded, paused, after_call, at_start, AnyChunksAreTaken, BelowLeastIsNoFrame, ChunksAreDelimited, FrontsAreFrames}
-use Rattle.sl_tcframe.proofs.DelimitedLemmas.{HasFrame, cases_front, cut_front, each_is_delimited, front_is, front_is_cut, front_some, frames_of-frame, frames_of-none, remainder_of-frame, remainder_of-none}
+use Rattle.sl_tcframe.proofs.DelimitedLemmas.{HasFrame, front_len-cases, is_cut-front, each_is_delimited, front_len-is, front_len-is_cut, front_len-some, frames_of-frame, frames_of-none, remainder_of-frame, remainder_of-none}
 use Rattle.sl_tcframe.proofs.FramingLemmas.{FrontIs, below_is_not_whole, below_stays, fits_rest, four_state_it, front_below_least, front_tells, front_whole, len_by_four-append, rest_fits}
 use Rattle.sl_tcframe.proofs.PartLemmas.{facts_cut}
 
@@ -23,7 +23,7 @@ whole_is_frame : (format : TcFormat) (octets : List ℕ) (len : ℕ) → IsOctet
 whole_is_frame format octets len each whole =
     let w = front_tells format octets (WholeFrame len) whole in
     let five : 5 ≤ length octets = omega (arith, w.1, w.2) in
-    front_is format octets len (record {
+    front_len-is format octets len (record {
       header = five;
       least = omega (arith, w.1, w.3);
       inside = omega (arith, w.2, w.3);
@@ -32,7 +32,7 @@ whole_is_frame format octets len each whole =
 
 frame_is_whole : (format : TcFormat) (octets : List ℕ) (len : ℕ) → IsOctets octets → front_len format octets ≡ Some len → front_of format octets ≡ WholeFrame len
 frame_is_whole format octets len each some =
-    let f = front_some format octets len some in
+    let f = front_len-some format octets len some in
     let header = f.header in
     let least = f.least in
     let inside = f.inside in
@@ -42,15 +42,15 @@ frame_is_whole format octets len each some =
 -- the frame at the front of octets
 begins_with : (format : TcFormat) (octets : List ℕ) (len : ℕ) → front_len format octets ≡ Some len → BeginsWith format octets len
 begins_with format octets len some =
-    let f = front_some format octets len some in
+    let f = front_len-some format octets len some in
     let inside = f.inside in
-    (take len octets, drop len octets, sym (take-append-drop len octets), front_is_cut format octets len some, length-take-le len octets inside)
+    (take len octets, drop len octets, sym (take-append-drop len octets), front_len-is_cut format octets len some, length-take-le len octets inside)
 
 front_begins : (format : TcFormat) (octets : List ℕ) (len : ℕ) → BeginsWith format octets len → front_len format octets ≡ Some len
 front_begins format octets len b =
     let (frame, later, parts, cut, size) = b in
-    front_is format octets len
-    (subst (λ n. HasFrame format octets n) size (subst (λ l. HasFrame format l (length frame)) (sym parts) (cut_front format frame later cut)))
+    front_len-is format octets len
+    (subst (λ n. HasFrame format octets n) size (subst (λ l. HasFrame format l (length frame)) (sym parts) (is_cut-front format frame later cut)))
 
 pub fronts_are_frames : FrontsAreFrames
 fronts_are_frames format octets len each = (
@@ -62,7 +62,7 @@ fronts_are_frames format octets len each = (
 no_frame : (format : TcFormat) (octets : List ℕ) → IsOctets octets
     → (HasFrame format octets (stated_frame_len octets) → len_by_four octets ≡ stated_frame_len octets → ⊥) → front_len format octets ≡ None
 no_frame format octets each not_so =
-    elim (cases_front format octets) [
+    elim (front_len-cases format octets) [
       | inl (f, some) ↦ absurd (not_so f (stated_by_four octets each f.header))
       | inr (none, is) ↦ is
     ]

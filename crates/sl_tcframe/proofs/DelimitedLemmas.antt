@@ -37,9 +37,9 @@ frame_begins format octets len f =
     rw (le-ltb (length octets) 5 f.header, le-ltb (stated_frame_len octets) (least_of format) least, le-ltb (length octets) (stated_frame_len octets) inside) refl
 
 -- the two cases of a front
-pub cases_front : (format : TcFormat) (octets : List ℕ) → (HasFrame format octets (stated_frame_len octets) × (front_len format octets ≡ Some (stated_frame_len octets)))
+pub front_len-cases : (format : TcFormat) (octets : List ℕ) → (HasFrame format octets (stated_frame_len octets) × (front_len format octets ≡ Some (stated_frame_len octets)))
     ⊎ ((begin_no_frame format octets ≡ true) × (front_len format octets ≡ None))
-cases_front format octets = go (begin_no_frame format octets) refl
+front_len-cases format octets = go (begin_no_frame format octets) refl
   where
     go : (b : Bool) → begin_no_frame format octets ≡ b → (HasFrame format octets (stated_frame_len octets) × (front_len format octets ≡ Some (stated_frame_len octets)))
         ⊎ ((begin_no_frame format octets ≡ true) × (front_len format octets ≡ None))
@@ -51,8 +51,8 @@ header_seam : (frame more : List ℕ) → 5 ≤ length frame → take 5 (frame +
 header_seam frame more long = take-append-le 5 frame more long
 
 -- the front of a frame and the octets after it is the frame
-pub cut_front : (format : TcFormat) (frame more : List ℕ) → is_cut format frame ≡ true → HasFrame format (frame ++ more) (length frame)
-cut_front format frame more cut =
+pub is_cut-front : (format : TcFormat) (frame more : List ℕ) → is_cut format frame ≡ true → HasFrame format (frame ++ more) (length frame)
+is_cut-front format frame more cut =
     let facts = cut_facts format frame cut in
     let least = facts.0 in
     let five : 5 ≤ length frame = omega arith in
@@ -64,8 +64,8 @@ cut_front format frame more cut =
     }
 
 -- the octets at the front, of the stated length, are a frame
-pub front_cut : (format : TcFormat) (octets : List ℕ) (len : ℕ) → HasFrame format octets len → is_cut format (take len octets) ≡ true
-front_cut format octets len f =
+pub front-is_cut : (format : TcFormat) (octets : List ℕ) (len : ℕ) → HasFrame format octets len → is_cut format (take len octets) ≡ true
+front-is_cut format octets len f =
     let least = f.least in
     let five : 5 ≤ len = omega arith in
     let long : length (take len octets) ≡ len = length-take-le len octets f.inside in
@@ -109,23 +109,23 @@ frames_of-none format (octet ∷ octets) h =
 pub remainder_of-none : (format : TcFormat) (octets : List ℕ) → front_len format octets ≡ None → tc_remainder_of format octets ≡ octets
 remainder_of-none format octets h = ap (λ frames. drop (length (concat frames)) octets) (frames_of-none format octets h)
 
-pub front_is : (format : TcFormat) (octets : List ℕ) (len : ℕ) → HasFrame format octets len → front_len format octets ≡ Some len
-front_is format octets len f = rw (frame_begins format octets len f) (ap Some (sym f.stated))
+pub front_len-is : (format : TcFormat) (octets : List ℕ) (len : ℕ) → HasFrame format octets len → front_len format octets ≡ Some len
+front_len-is format octets len f = rw (frame_begins format octets len f) (ap Some (sym f.stated))
 
 -- the frames of a frame and the octets after it
 pub frames_of-frame : (format : TcFormat) (frame more : List ℕ) → is_cut format frame ≡ true → tc_frames_of format (frame ++ more) ≡ frame ∷ tc_frames_of format more
 frames_of-frame format frame more cut =
-    let f = cut_front format frame more cut in
+    let f = is_cut-front format frame more cut in
     let least = f.least in
-    frames_of-front format (frame ++ more) (length frame) (front_is format (frame ++ more) (length frame) f) (omega arith) (omega (arith, length-append frame more))
+    frames_of-front format (frame ++ more) (length frame) (front_len-is format (frame ++ more) (length frame) f) (omega arith) (omega (arith, length-append frame more))
     ∙ ap (λ xs. xs ∷ tc_frames_of format (drop (length frame) (frame ++ more))) (take_at frame more (length frame) refl)
     ∙ ap (λ xs. frame ∷ tc_frames_of format xs) (drop_at frame more (length frame) refl)
 
 pub remainder_of-frame : (format : TcFormat) (frame more : List ℕ) → is_cut format frame ≡ true → tc_remainder_of format (frame ++ more) ≡ tc_remainder_of format more
 remainder_of-frame format frame more cut =
-    let f = cut_front format frame more cut in
+    let f = is_cut-front format frame more cut in
     let least = f.least in
-    remainder_of-front format (frame ++ more) (length frame) (front_is format (frame ++ more) (length frame) f) (omega arith) f.inside
+    remainder_of-front format (frame ++ more) (length frame) (front_len-is format (frame ++ more) (length frame) f) (omega arith) f.inside
     ∙ ap (tc_remainder_of format) (drop_at frame more (length frame) refl)
 
 abbrev pub AreCuts : TcFormat → List (List ℕ) → Type 0
@@ -155,7 +155,7 @@ one_before format octets len frames rest f a = record {
   end_to_end =
       sym (take-append-drop len octets) ∙ ap (λ xs. take len octets ++ xs) a.end_to_end
       ∙ sym (append_assoc (take len octets) (concat frames) rest);
-  each = (front_cut format octets len f, a.each);
+  each = (front-is_cut format octets len f, a.each);
   no_more = a.no_more;
 }
 
@@ -165,7 +165,7 @@ none_before format octets h = record { end_to_end = refl; each = tt; no_more = h
 delimited_if : (format : TcFormat) (octets : List ℕ) → (HasFrame format octets (stated_frame_len octets) → IsTcDelimited format (drop (stated_frame_len octets) octets) (tc_frames_of format (drop (stated_frame_len octets) octets)) (tc_remainder_of format (drop (stated_frame_len octets) octets)))
     → IsTcDelimited format octets (tc_frames_of format octets) (tc_remainder_of format octets)
 delimited_if format octets later =
-    elim (cases_front format octets) [
+    elim (front_len-cases format octets) [
       | inl (f, front) ↦
           let least = f.least in
           let len : ℕ = stated_frame_len octets in
@@ -193,12 +193,12 @@ delimited_once format recording frames remainder a =
 
 -- ---- one frame at the front, by its length
 
-pub front_some : (format : TcFormat) (octets : List ℕ) (len : ℕ) → front_len format octets ≡ Some len → HasFrame format octets len
-front_some format octets len h =
-    elim (cases_front format octets) [
+pub front_len-some : (format : TcFormat) (octets : List ℕ) (len : ℕ) → front_len format octets ≡ Some len → HasFrame format octets len
+front_len-some format octets len h =
+    elim (front_len-cases format octets) [
       | inl (f, e) ↦ subst (HasFrame format octets) (same_Some (stated_frame_len octets) len (sym e ∙ h)) f
       | inr (e, none) ↦ absurd (none-some len (sym none ∙ h))
     ]
 
-pub front_is_cut : (format : TcFormat) (octets : List ℕ) (len : ℕ) → front_len format octets ≡ Some len → is_cut format (take len octets) ≡ true
-front_is_cut format octets len h = front_cut format octets len (front_some format octets len h)
+pub front_len-is_cut : (format : TcFormat) (octets : List ℕ) (len : ℕ) → front_len format octets ≡ Some len → is_cut format (take len octets) ≡ true
+front_len-is_cut format octets len h = front-is_cut format octets len (front_len-some format octets len h)

@@ -17,7 +17,7 @@ pub record Fronts : Type 0 where
   pub more_behind : front_of (format 16) (stating 0x02 ++ carrier) ≡ BelowLeast
   pub least : front_of (format 16) (stating 0x04 ++ 0xEE ∷ []) ≡ WholeFrame 5
   pub whole : front_of (format 16) (carrier ++ 0xEE ∷ []) ≡ WholeFrame 16
-  pub two_octets : len_by_four (0x00 ∷ 0x01 ∷ 0xFD ∷ 0x03 ∷ 0xFF ∷ []) ≡ 260
+  pub both_octets_of_the_length : len_by_four (0x00 ∷ 0x01 ∷ 0xFD ∷ 0x03 ∷ 0xFF ∷ []) ≡ 260
 
 pub fronts : Fronts
 fronts = record {
@@ -30,5 +30,5 @@ fronts = record {
   more_behind = refl;
   least = refl;
   whole = refl;
-  two_octets = refl;
+  both_octets_of_the_length = refl;
 }

@@ -66,8 +66,8 @@ same_header : (format : TcFormat) (frame : List ℕ) (p : TcParts) → ArePartsO
 same_header format frame p a =
     ap (λ n. take n frame) (sym a.header) ∙ ap (take (length p.header)) a.in_order ∙ (split_three p.header p.field p.fecf).0
 
-pub only_parts : (format : TcFormat) (frame : List ℕ) (p : TcParts) → ArePartsOf format frame p → tc_parts_of format frame ≡ p
-only_parts format frame p a =
+pub parts_once : (format : TcFormat) (frame : List ℕ) (p : TcParts) → ArePartsOf format frame p → tc_parts_of format frame ≡ p
+parts_once format frame p a =
     let three = split_three p.header p.field p.fecf in
     let all = all_octets format frame p a in
     let field : field_len format frame ≡ length p.field = omega arith in

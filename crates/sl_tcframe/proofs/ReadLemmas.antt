@@ -9,7 +9,7 @@ use Rattle.sl_tcframe.specs.declared.tc_frame.TcSkip.TheVariants.{Fecf, Version,
 use Rattle.sl_tcframe.specs.TcFrame.{TcFormat, TcView, Content, Ad, Bd, Unlock, SetVr, Carries, HasReason, IsReadAs, tc_header_of, tc_parts_of, command_of, content_of, order_of, early_reason, read_as, tc_frame}
 use Rattle.sl_fields.proofs.Tells.{Tells, tells_both, tells_less, tells_other}
 
--- ---- tests and the properties that they decide
+-- ---- tests and the properties that they decide (std's `eqb_tells` and `leb_tells` give two cases instead)
 
 tells_command_alone : (a b : Bool) → Tells (not a && b) ((a ≡ false) × (b ≡ true))
 tells_command_alone false true = (refl, refl)
@@ -63,10 +63,10 @@ module _ (Has : TcSkip → Type 0) where
         | inr (e, other) ↦ none earlier (omega arith) has
       ]
 
-  -- the first reason that holds
+  -- the first reason that holds; where it is `None`, only `Command` may hold
   abbrev IsFirst : Option TcSkip → Type 0
   IsFirst (Some reason) = Has reason × NoneBelow (order_of reason)
-  IsFirst None = NoneBelow 7
+  IsFirst None = NoneBelow (order_of Command)
 
   -- the reasons tried one after another
   abbrev tried : Bool → Bool → Bool → Bool → Bool → Bool → Option TcSkip
@@ -100,23 +100,24 @@ module _ (Has : TcSkip → Type 0) where
 
 -- ---- the content of a data field
 
--- the content of a data field, by the two flags, the frame sequence number and the data field
-abbrev With : Bool → Bool → ℕ → List ℕ → Content → Type 0
-With bypass command count field (Ad ns unit) =
-    (bypass ≡ false) × (command ≡ false) × (field ≢ []) × (ns ≡ count) × (unit ≡ field)
-With bypass command count field (Bd unit) = (bypass ≡ true) × (command ≡ false) × (field ≢ []) × (unit ≡ field)
-With bypass command count field Unlock = (bypass ≡ true) × (command ≡ true) × (field ≡ 0x00 ∷ [])
-With bypass command count field (SetVr vr) = (bypass ≡ true) × (command ≡ true) × (field ≡ 0x82 ∷ 0x00 ∷ vr ∷ [])
+-- `Carries` with the header's flags and N(S) as arguments, so that a proof can go by cases of the flags
+abbrev CarriesBy : Bool → Bool → ℕ → List ℕ → Content → Type 0
+CarriesBy bypass command header_ns field (Ad ns unit) =
+    (bypass ≡ false) × (command ≡ false) × (field ≢ []) × (ns ≡ header_ns) × (unit ≡ field)
+CarriesBy bypass command header_ns field (Bd unit) = (bypass ≡ true) × (command ≡ false) × (field ≢ []) × (unit ≡ field)
+CarriesBy bypass command header_ns field Unlock = (bypass ≡ true) × (command ≡ true) × (field ≡ 0x00 ∷ [])
+CarriesBy bypass command header_ns field (SetVr vr) = (bypass ≡ true) × (command ≡ true) × (field ≡ 0x82 ∷ 0x00 ∷ vr ∷ [])
 
+-- what was found is the content; or nothing was found, and nothing is one
 abbrev Finds : (Content → Type 0) → Option Content → Type 0
 Finds Is (Some content) = Is content
 Finds Is None = (content : Content) → Is content → ⊥
 
-no_command : (count : ℕ) (field : List ℕ) → field ≢ 0x00 ∷ [] → ((vr : ℕ) → field ≢ 0x82 ∷ 0x00 ∷ vr ∷ []) → Finds (With true true count field) None
-no_command count field no_unlock no_set (Ad ns unit) h = absurd (cc)
-no_command count field no_unlock no_set (Bd unit) h = absurd (cc)
-no_command count field no_unlock no_set Unlock h = no_unlock h.2
-no_command count field no_unlock no_set (SetVr vr) h = no_set vr h.2
+no_command : (header_ns : ℕ) (field : List ℕ) → field ≢ 0x00 ∷ [] → ((vr : ℕ) → field ≢ 0x82 ∷ 0x00 ∷ vr ∷ []) → Finds (CarriesBy true true header_ns field) None
+no_command header_ns field no_unlock no_set (Ad ns unit) h = absurd (cc)
+no_command header_ns field no_unlock no_set (Bd unit) h = absurd (cc)
+no_command header_ns field no_unlock no_set Unlock h = no_unlock h.2
+no_command header_ns field no_unlock no_set (SetVr vr) h = no_set vr h.2
 
 abbrev head_of : List ℕ → ℕ
 head_of [] = 0
@@ -126,67 +127,68 @@ abbrev second_of : List ℕ → ℕ
 second_of [] = 0
 second_of (octet ∷ octets) = head_of octets
 
-command_found : (count : ℕ) (field : List ℕ) → Finds (With true true count field) (command_of field)
-command_found count [] = no_command count [] (λ e. cc) (λ vr e. cc)
-command_found count (code ∷ []) =
+command_found : (header_ns : ℕ) (field : List ℕ) → Finds (CarriesBy true true header_ns field) (command_of field)
+command_found header_ns [] = no_command header_ns [] (λ e. cc) (λ vr e. cc)
+command_found header_ns (code ∷ []) =
     elim (eqb_tells code 0x00) [
       | inl (e, same) ↦ rw e (refl, refl, ap (λ n. n ∷ []) same)
-      | inr (e, other) ↦ rw e (no_command count (code ∷ []) (λ p. other (ap head_of p)) (λ vr p. cc))
+      | inr (e, other) ↦ rw e (no_command header_ns (code ∷ []) (λ p. other (ap head_of p)) (λ vr p. cc))
     ]
-command_found count (code ∷ second ∷ []) = no_command count (code ∷ second ∷ []) (λ e. cc) (λ vr e. cc)
-command_found count (code ∷ second ∷ third ∷ []) =
+command_found header_ns (code ∷ second ∷ []) = no_command header_ns (code ∷ second ∷ []) (λ e. cc) (λ vr e. cc)
+command_found header_ns (code ∷ second ∷ third ∷ []) =
     elim (eqb_tells code 0x82) [
       | inl (e, same) ↦
           elim (eqb_tells second 0x00) [
             | inl (e', same') ↦ rw (e, e') (refl, refl, rw (same, same') refl)
-            | inr (e', other) ↦ rw (e, e') (no_command count (code ∷ second ∷ third ∷ []) (λ p. cc) (λ vr p. other (ap second_of p)))
+            | inr (e', other) ↦ rw (e, e') (no_command header_ns (code ∷ second ∷ third ∷ []) (λ p. cc) (λ vr p. other (ap second_of p)))
           ]
-      | inr (e, other) ↦ rw e (no_command count (code ∷ second ∷ third ∷ []) (λ p. cc) (λ vr p. other (ap head_of p)))
+      | inr (e, other) ↦ rw e (no_command header_ns (code ∷ second ∷ third ∷ []) (λ p. cc) (λ vr p. other (ap head_of p)))
     ]
-command_found count (code ∷ second ∷ third ∷ fourth ∷ more) =
-    no_command count (code ∷ second ∷ third ∷ fourth ∷ more) (λ e. cc) (λ vr e. cc)
+command_found header_ns (code ∷ second ∷ third ∷ fourth ∷ more) =
+    no_command header_ns (code ∷ second ∷ third ∷ fourth ∷ more) (λ e. cc) (λ vr e. cc)
 
-no_type : (count : ℕ) (field : List ℕ) → Finds (With false true count field) None
-no_type count field (Ad ns unit) h = absurd (cc)
-no_type count field (Bd unit) h = absurd (cc)
-no_type count field Unlock h = absurd (cc)
-no_type count field (SetVr vr) h = absurd (cc)
+no_type : (header_ns : ℕ) (field : List ℕ) → Finds (CarriesBy false true header_ns field) None
+no_type header_ns field (Ad ns unit) h = absurd (cc)
+no_type header_ns field (Bd unit) h = absurd (cc)
+no_type header_ns field Unlock h = absurd (cc)
+no_type header_ns field (SetVr vr) h = absurd (cc)
 
-no_unit : (bypass : Bool) (count : ℕ) → Finds (With bypass false count []) None
-no_unit bypass count (Ad ns unit) h = h.2 refl
-no_unit bypass count (Bd unit) h = h.2 refl
-no_unit bypass count Unlock h = absurd (cc)
-no_unit bypass count (SetVr vr) h = absurd (cc)
+no_unit : (bypass : Bool) (header_ns : ℕ) → Finds (CarriesBy bypass false header_ns []) None
+no_unit bypass header_ns (Ad ns unit) h = h.2 refl
+no_unit bypass header_ns (Bd unit) h = h.2 refl
+no_unit bypass header_ns Unlock h = absurd (cc)
+no_unit bypass header_ns (SetVr vr) h = absurd (cc)
 
-abbrev found_by : Bool → Bool → ℕ → List ℕ → Option Content
-found_by bypass command count [] = if not command then None else if bypass then command_of [] else None
-found_by bypass command count (octet ∷ octets) =
-    if not command then Some (if bypass then Bd (octet ∷ octets) else Ad count (octet ∷ octets))
+-- `content_of`, with the same arguments
+abbrev content_by : Bool → Bool → ℕ → List ℕ → Option Content
+content_by bypass command header_ns [] = if not command then None else if bypass then command_of [] else None
+content_by bypass command header_ns (octet ∷ octets) =
+    if not command then Some (if bypass then Bd (octet ∷ octets) else Ad header_ns (octet ∷ octets))
     else if bypass then command_of (octet ∷ octets) else None
 
-found : (bypass command : Bool) (count : ℕ) (field : List ℕ) → Finds (With bypass command count field) (found_by bypass command count field)
-found bypass false count [] = no_unit bypass count
-found true false count (octet ∷ octets) = (refl, refl, (λ e. cc), refl)
-found false false count (octet ∷ octets) = (refl, refl, (λ e. cc), refl, refl)
-found true true count [] = command_found count []
-found true true count (octet ∷ octets) = command_found count (octet ∷ octets)
-found false true count [] = no_type count []
-found false true count (octet ∷ octets) = no_type count (octet ∷ octets)
+content_by_found : (bypass command : Bool) (header_ns : ℕ) (field : List ℕ) → Finds (CarriesBy bypass command header_ns field) (content_by bypass command header_ns field)
+content_by_found bypass false header_ns [] = no_unit bypass header_ns
+content_by_found true false header_ns (octet ∷ octets) = (refl, refl, (λ e. cc), refl)
+content_by_found false false header_ns (octet ∷ octets) = (refl, refl, (λ e. cc), refl, refl)
+content_by_found true true header_ns [] = command_found header_ns []
+content_by_found true true header_ns (octet ∷ octets) = command_found header_ns (octet ∷ octets)
+content_by_found false true header_ns [] = no_type header_ns []
+content_by_found false true header_ns (octet ∷ octets) = no_type header_ns (octet ∷ octets)
 
-found_by-content_of : (h : TcFields) (field : List ℕ) → content_of h field ≡ found_by h.bypass h.command h.ns field
-found_by-content_of h [] = refl
-found_by-content_of h (octet ∷ octets) = refl
+content_by-content_of : (h : TcFields) (field : List ℕ) → content_of h field ≡ content_by h.bypass h.command h.ns field
+content_by-content_of h [] = refl
+content_by-content_of h (octet ∷ octets) = refl
 
 pub content_found : (h : TcFields) (field : List ℕ) → Finds (Carries h field) (content_of h field)
-content_found h field = rw (found_by-content_of h field) (found h.bypass h.command h.ns field)
+content_found h field = rw (content_by-content_of h field) (content_by_found h.bypass h.command h.ns field)
 
 -- a data field that isn't empty and has no content is of type BC, unless its flags are of no type
-type_bc : (bypass command : Bool) (count : ℕ) (field : List ℕ) → ((bypass ≡ false) × (command ≡ true) → ⊥) → field ≢ [] → Finds (With bypass command count field) None
+type_bc : (bypass command : Bool) (header_ns : ℕ) (field : List ℕ) → ((bypass ≡ false) × (command ≡ true) → ⊥) → field ≢ [] → Finds (CarriesBy bypass command header_ns field) None
     → (bypass ≡ true) × (command ≡ true)
-type_bc true true count field kind some none = (refl, refl)
-type_bc false true count field kind some none = absurd (kind (refl, refl))
-type_bc true false count field kind some none = absurd (none (Bd field) (refl, refl, some, refl))
-type_bc false false count field kind some none = absurd (none (Ad count field) (refl, refl, some, refl, refl))
+type_bc true true header_ns field kind some none = (refl, refl)
+type_bc false true header_ns field kind some none = absurd (kind (refl, refl))
+type_bc true false header_ns field kind some none = absurd (none (Bd field) (refl, refl, some, refl))
+type_bc false false header_ns field kind some none = absurd (none (Ad header_ns field) (refl, refl, some, refl, refl))
 
 one_content : (h : TcFields) (field : List ℕ) (a b : Content) → Carries h field a → Carries h field b → a ≡ b
 one_content h field (Ad ns unit) (Ad ns' unit') p q = rw (p.3, p.4, q.3, q.4) refl
@@ -212,19 +214,19 @@ module _ (format : TcFormat) (spacecraft : ℕ) (frame : List ℕ) where
   abbrev h : TcFields
   h = tc_header_of frame
 
-  abbrev carried : List ℕ
-  carried = (tc_parts_of format frame).field
+  abbrev data_field : List ℕ
+  data_field = (tc_parts_of format frame).field
 
   abbrev Has : TcSkip → Type 0
   Has = HasReason format spacecraft frame
 
   first_reason : IsFirst Has (early_reason format spacecraft frame)
   first_reason =
-      first_is Has (format.fecf && not (fecf_is_good frame)) (not (h.version == 0)) (not (h.spacecraft == spacecraft)) (nat_lt format.max (length frame)) (not h.bypass && h.command) (length carried == 0)
+      first_is Has (format.fecf && not (fecf_is_good frame)) (not (h.version == 0)) (not (h.spacecraft == spacecraft)) (nat_lt format.max (length frame)) (not h.bypass && h.command) (length data_field == 0)
       (tells_both format.fecf (fecf_is_good frame)) (tells_other h.version 0) (tells_other h.spacecraft spacecraft) (tells_less format.max (length frame))
-      (tells_command_alone h.bypass h.command) (tells_empty carried)
+      (tells_command_alone h.bypass h.command) (tells_empty data_field)
 
-  no_reason : (content : Content) → Carries h carried content → NoneBelow Has 7 → (reason : TcSkip) → Has reason → ⊥
+  no_reason : (content : Content) → Carries h data_field content → NoneBelow Has (order_of Command) → (reason : TcSkip) → Has reason → ⊥
   no_reason content carries none Fecf has = none Fecf (omega arith) has
   no_reason content carries none Version has = none Version (omega arith) has
   no_reason content carries none Spacecraft has = none Spacecraft (omega arith) has
@@ -233,15 +235,15 @@ module _ (format : TcFormat) (spacecraft : ℕ) (frame : List ℕ) where
   no_reason content carries none Empty has = none Empty (omega arith) has
   no_reason content carries none Command has = has.2 content carries
 
-  read_is : (early : Option TcSkip) (content : Option Content) → IsFirst Has early → Finds (Carries h carried) content → IsReadAs format spacecraft frame (read_as early h content)
+  read_is : (early : Option TcSkip) (content : Option Content) → IsFirst Has early → Finds (Carries h data_field) content → IsReadAs format spacecraft frame (read_as early h content)
   read_is (Some reason) content first finds = first
   read_is None (Some content) first finds = (no_reason content finds first, refl, finds)
   read_is None None first finds =
-      let bc = type_bc h.bypass h.command h.ns carried (first Kind (omega arith)) (first Empty (omega arith)) finds in
+      let bc = type_bc h.bypass h.command h.ns data_field (first Kind (omega arith)) (first Empty (omega arith)) finds in
       ((bc.0, bc.1, finds), first)
 
   pub is_read : IsReadAs format spacecraft frame (tc_frame format spacecraft frame)
-  is_read = read_is (early_reason format spacecraft frame) (content_of h carried) first_reason (content_found h carried)
+  is_read = read_is (early_reason format spacecraft frame) (content_of h data_field) first_reason (content_found h data_field)
 
   abbrev view : ℕ → Content → TcView
   view vc content = record { vc = vc; content = content }
@@ -250,7 +252,7 @@ module _ (format : TcFormat) (spacecraft : ℕ) (frame : List ℕ) where
   same_view v w e f = ap (λ n. view n v.content) e ∙ ap (view w.vc) f
 
   one_read : (a b : Result TcView TcSkip) → IsReadAs format spacecraft frame a → IsReadAs format spacecraft frame b → a ≡ b
-  one_read (Ok v) (Ok w) p q = ap Ok (same_view v w (p.1 ∙ sym q.1) (one_content h carried v.content w.content p.2 q.2))
+  one_read (Ok v) (Ok w) p q = ap Ok (same_view v w (p.1 ∙ sym q.1) (one_content h data_field v.content w.content p.2 q.2))
   one_read (Ok v) (Err reason) p q = absurd (p.0 reason q.0)
   one_read (Err reason) (Ok w) p q = absurd (q.0 reason p.0)
   one_read (Err r) (Err s) p q = ap Err (one_first Has r s p.0 p.1 q.0 q.1)

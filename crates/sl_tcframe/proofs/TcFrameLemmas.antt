@@ -9,7 +9,7 @@ pub field_lies : (frame : List ℕ) (last : ℕ) → take (length (drop 5 frame)
 field_lies frame last = ap (λ n. take (n - last) (drop 5 frame)) (length-drop 5 frame)
 
 module _ (format : TcFormat) (spacecraft : ℕ) (frame field : List ℕ) (h : TcFields) (kept : early_reason format spacecraft frame ≡ None) (header : h ≡ tc_header_of frame) (lies : field ≡ (tc_parts_of format frame).field) where
-  -- the result of reading is the content that is found, or that none is found
+  -- `read_as` of what was found is how the frame is read
   read_with : (found : Option Content) → found ≡ content_of h field → read_as None (tc_header_of frame) found ≡ tc_frame format spacecraft frame
   read_with found carried =
       ap (read_as None (tc_header_of frame)) (carried ∙ ap (λ g. content_of g field) header ∙ ap (content_of (tc_header_of frame)) lies)

@@ -1,6 +1,6 @@
 -- The TC transfer frame, CCSDS 232.0-B: its parts, why a frame is skipped, and what a frame
--- carries. The spare bits of the header, and N(S) of types BD and BC, are ignored. The project's
--- own choices, as this one is, are marked here as mission profile.
+-- carries. The spare bits of the header, and N(S) of types BD and BC, are ignored. To ignore them
+-- is the project's own choice. Such choices are marked as mission profile here.
 use Rattle.std.specs.Prelude.{◌≡◌, ◌≢◌, ⊤, ℕ, ◌+◌, ◌-◌, ◌<◌, ◌≤◌, ◌==◌, nat_lt, Bool, true, false, not, ◌&&◌, if◌then◌else◌, List, [], ◌∷◌, ◌++◌, length, take, drop, Option, None, Some, Result, Ok, Err}
 use Rattle.sl_fields.specs.Fecf.{fecf_is_good}
 use Rattle.sl_fields.specs.FecfField.{fecf_len}
@@ -44,8 +44,8 @@ abbrev pub stated_frame_len : List ℕ → ℕ
 stated_frame_len octets = (tc_header_of octets).length + 1
 
 -- Whether octets are one frame as the delimiting cuts it out of a recording: no fewer than the
--- least length, and as many as their frame length field states. The pages and laws call this one
--- frame by its frame length field, and `AdFramesAreWhole` calls it whole.
+-- least length, and as many as their frame length field states. The pages and laws call this "one
+-- frame by its frame length field", and `AdFramesAreWhole` calls it whole.
 abbrev pub is_cut : TcFormat → List ℕ → Bool
 is_cut format octets = not (nat_lt (length octets) (least_of format)) && length octets == stated_frame_len octets
 
@@ -89,8 +89,8 @@ Carries h field (SetVr vr) = (h.bypass ≡ true) × (h.command ≡ true) × (fie
 -- Why a frame is skipped: a wrong error control field where the format has one; another version
 -- than 0; another spacecraft; more octets than the managed greatest length; the control command
 -- flag without the bypass flag; no data field; or type BC without a control command. `Fecf` tests
--- the whole octets, not the part `fecf` as in TM: `EachIsRead` holds of any octets, and of too few
--- of them the part isn't the last two octets.
+-- the whole octets. (In TM it tests the part `fecf`.) For `EachIsRead`, below, holds of any octets,
+-- also of fewer than a frame has, and of those the part `fecf` isn't the last two octets.
 abbrev pub HasReason : TcFormat → ℕ → List ℕ → TcSkip → Type 0
 HasReason format spacecraft frame Fecf = (format.fecf ≡ true) × (fecf_is_good frame ≡ false)
 HasReason format spacecraft frame Version = (tc_header_of frame).version ≢ 0

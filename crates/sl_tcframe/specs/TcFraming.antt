@@ -21,7 +21,8 @@ pub data FrameFront : Type 0 where
 
 -- The length that the first four octets state. The frame length field ends with the fourth octet. A
 -- primary header has a fifth one, N(S), which the field doesn't reach, so 0 stands for it. This
--- agrees with `stated_frame_len` for octets only, so the laws ask for `IsOctets`.
+-- agrees with `stated_frame_len` where each number is below 256, since a greater fifth one would
+-- carry into the field. So the laws ask for `IsOctets`.
 abbrev pub len_by_four : List ℕ → ℕ
 len_by_four octets = stated_frame_len (take 4 octets ++ 0 ∷ [])
 

@@ -50,7 +50,7 @@ pub fn push_tc(
         spacecraft,
         vc,
         ns,
-        segment: &header.write(),
+        segment_header: &header.write(),
         octets,
     };
     push_ad(out, shape, &frame)
@@ -94,7 +94,7 @@ pub fn push_tc_plain(
         spacecraft,
         vc,
         ns,
-        segment: &[],
+        segment_header: &[],
         octets,
     };
     push_ad(out, shape, &plain)
@@ -107,7 +107,7 @@ struct AdFrame<'a> {
     vc: u8,
     ns: u8,
     // The first part: the octet of a segment header, or no octet.
-    segment: &'a [u8],
+    segment_header: &'a [u8],
     // The second part: the other octets.
     octets: &'a [u8],
 }
@@ -117,37 +117,37 @@ struct AdFrame<'a> {
 fn push_ad(out: &mut Vec<u8>, shape: &TcShape, frame: &AdFrame) -> Result<(), AllocError>
     requires spacecraft { frame.now.spacecraft ≤ 1023 }
     requires vc { frame.now.vc ≤ 63 }
-    // The two parts together are a data field of at most the greatest length. For 16 <= max
-    // `plain_room_of` is this bound too. Below 16 subtraction may stop at 0, and the two differ.
-    // `push_tc` reads no field of `shape`, so its proof has no 16 <= max (see `frame_len`).
-    requires unit { length frame.now.segment.now + length frame.now.octets.now
+    // The two parts together are a data field of at most the greatest length. The bound isn't
+    // `plain_room_of`, which is the same for 16 <= max: `push_tc` has the bound of a segment, and
+    // no 16 <= max in its proof (see `frame_len`). For `push_tc_plain` it is enough in any case.
+    requires unit { length frame.now.segment_header.now + length frame.now.octets.now
         ≤ 1 + segment_room_of shape.now }
     // The frame is added.
     ensures added { OnOk result (out.new.items ≡ out.old.items
         ++ ad_frame shape.now frame.now.spacecraft frame.now.vc frame.now.ns
-        (frame.now.segment.now ++ frame.now.octets.now)) }
+        (frame.now.segment_header.now ++ frame.now.octets.now)) }
     ensures len { OnOk result (vec_len out.new ≡ vec_len out.old
-        + ad_len shape.now (length frame.now.segment.now + length frame.now.octets.now)) }
+        + ad_len shape.now (length frame.now.segment_header.now + length frame.now.octets.now)) }
 
     // Memory is refused only where `out` had no room for the frame, and then nothing is added. The
     // capacity never shrinks.
     ensures unchanged { OnErr result (out.new.items ≡ out.old.items) }
     ensures capacity { vec_capacity out.old ≤ vec_capacity out.new }
     ensures full { OnErr result (vec_capacity out.old < vec_len out.old
-        + ad_len shape.now (length frame.now.segment.now + length frame.now.octets.now)) }
+        + ad_len shape.now (length frame.now.segment_header.now + length frame.now.octets.now)) }
 {
     let AdFrame {
         spacecraft,
         vc,
         ns,
-        segment,
+        segment_header,
         octets,
     } = *frame;
     let start = out.len();
-    let len = frame_len(shape, segment.len() + octets.len());
+    let len = frame_len(shape, segment_header.len() + octets.len());
     out.reserve(usize::from(len))?;
     out.extend_from_slice(&frame_header(spacecraft, vc, ns, len))?;
-    out.extend_from_slice(segment)?;
+    out.extend_from_slice(segment_header)?;
     out.extend_from_slice(octets)?;
     if !shape.fecf {
         return Ok(());

@@ -89,7 +89,8 @@ impl TcFramer {
     ///   `piece` then holds the octets after these four, and the framer takes no octet in any later
     ///   call.
     pub fn next(&mut self, piece: &mut &[u8]) -> Option<&[u8]>
-        // The state of the framer once the returned frame is no longer borrowed.
+        // The state of the framer once the returned frame is no longer borrowed: `Rests R s P`, of
+        // std's `specs/Io/BufRead.antt`, says that P holds then of what `s` points to.
         ensures* taken { sem 𝓛 (Rests the_row self.entry (HasTaken self.old piece.old.now result)) }
 
         // A frame has the octets that were taken after the last frame, and then octets from the

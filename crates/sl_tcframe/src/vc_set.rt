@@ -29,8 +29,8 @@ impl Model for VcSet {
     ghost use Rattle.std.proofs.Common.{ap};
     ghost use Rattle.sl_tcframe.specs.VcSetBack.{flags_back};
 
-    ghost inverse_ok = { λ s many.
-        ap (λ flags. record { flags = flags }) (flags_back s.flags many) };
+    ghost inverse_ok = { λ s has_64.
+        ap (λ flags. record { flags = flags }) (flags_back s.flags has_64) };
 }
 
 impl VcSet {

@@ -14,7 +14,7 @@ use Rattle.sl_fields.proofs.FecfRecurrence.{part-recurs}
 use Rattle.sl_fields.proofs.FecfSlices.{zero_slice, slices, length-sum, length-across, part-cut, part-two, part-four}
 use Rattle.sl_fields.proofs.Xor.{xor_sums}
 
--- the next sum
+-- the next sum, where `a` to `d` are `oldest` to `newest` of folds.rt
 abbrev pub next_sum : List ℕ → List ℕ → List ℕ → List ℕ → List ℕ → List ℕ
 next_sum a b c d slice = zip2 bit_xor (zip2 bit_xor (zip2 bit_xor a (drop 4 b ++ take 4 c)) d) slice
 
@@ -24,7 +24,7 @@ without_sums a b c d =
     a ++ (zip2 bit_xor b a ++ (zip2 bit_xor (zip2 bit_xor c b) (drop 4 zero_slice ++ take 4 a) ++ zip2 bit_xor (zip2 bit_xor d c) (drop 4 a ++ take 4 b)))
 
 -- The part of these four sums without what they add to each other. `a` begins 64 octets before the end, and 48 octets
--- come after it. It was added to the octets 16 and 44 places later, after which 32 and 4 come. Of `b`, the first four
+-- come after it. It was added 16 and 44 places later, where 32 and 4 octets come after it. Of `b`, the first four
 -- octets alone can be added 44 places later.
 abbrev held : ℕ → List ℕ → List ℕ → List ℕ → List ℕ → ℕ
 held later a b c d =

@@ -10,6 +10,7 @@ use Rattle.sl_fields.proofs.Xor.{xor_sums, xor_none, xor_moved}
 
 -- two of four
 
+-- in these sums the letters are any numbers
 xor_early : (h d t e l : ℕ) → bit_xor (bit_xor (bit_xor h d) (bit_xor (bit_xor t e) l)) h ≡ bit_xor d (bit_xor t (bit_xor e l))
 xor_early h d t e l = simp xor_sums
 

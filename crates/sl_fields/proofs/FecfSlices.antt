@@ -23,6 +23,7 @@ picked from left right h e f =
     ∙ ap (λ n. take n (drop from left ++ right)) (sym short)
     ∙ take-append-add (drop from left) right from
 
+-- A bound on a numeral is a test here, `leb 4 16 ≡ true` and not `4 ≤ 16`: it computes, so `simp` proves it by itself.
 pub length-across : (from : ℕ) (left right : List ℕ) → leb from 16 ≡ true → length left ≡ 16 → length right ≡ 16 → length (drop from left ++ take from right) ≡ 16
 length-across from left right h e f = omega (arith, leb-true from 16 h, length-append (drop from left) (take from right), length-drop from left, length-take from right)
 
@@ -66,6 +67,7 @@ take-zip2 (suc n) [] ys = refl
 take-zip2 (suc n) (x ∷ xs) [] = refl
 take-zip2 (suc n) (x ∷ xs) (y ∷ ys) = ap (λ rest. bit_xor x y ∷ rest) (take-zip2 n xs ys)
 
+-- zeros in front take the place of as many of the first octets
 part-later : (n from m later : ℕ) (ys : List ℕ) → part_of later (take n (drop from (replicate m 0) ++ ys)) ≡ part_of later (take (n - (m - from)) ys)
 part-later n (suc from) zero later ys = ap (λ k. part_of later (take k ys)) (omega arith)
 part-later n (suc from) (suc m) later ys =

@@ -1,4 +1,5 @@
--- Headers of known octets, computed from the definitions. A wrong bit position would fail these facts.
+-- Headers of known octets, computed from the definitions. A wrong bit position would fail these facts: of each header
+-- they tell every flag from every other one.
 use Rattle.std.proofs.Common.{◌≡◌, true, false, [], ◌∷◌, refl}
 use Rattle.sl_fields.specs.TmHeader.{tm_header}
 use Rattle.sl_fields.specs.Clcw.{clcw_word}
@@ -21,6 +22,21 @@ pub record AreHeaders : Type 0 where
         order = false;
         segment = 3;
         first = 25;
+      }
+  pub mixed_telemetry :
+      tm_header (0x6A ∷ 0x9B ∷ 0x01 ∷ 0xFE ∷ 0x5D ∷ 0x34 ∷ [])
+      ≡ record {
+        version = 1;
+        spacecraft = 681;
+        vc = 5;
+        control = true;
+        mc = 1;
+        vcc = 254;
+        secondary = false;
+        sync = true;
+        order = false;
+        segment = 3;
+        first = 1332;
       }
   pub greatest :
       tm_header (0xFF ∷ 0xFF ∷ 0xFF ∷ 0xFF ∷ 0xFF ∷ 0xFF ∷ [])
@@ -55,42 +71,51 @@ pub record AreHeaders : Type 0 where
         spare_end = false;
         report = 5;
       }
+  pub mixed_control_word :
+      clcw_word (0x5B ∷ 0xA6 ∷ 0x94 ∷ 0xC3 ∷ [])
+      ≡ record {
+        word = 0;
+        version = 2;
+        status = 6;
+        cop = 3;
+        vc = 41;
+        spare = 2;
+        no_rf = true;
+        no_lock = false;
+        lockout = false;
+        wait = true;
+        retransmit = false;
+        farm_b = 2;
+        spare_end = false;
+        report = 195;
+      }
+  pub other_control_word :
+      clcw_word (0xB4 ∷ 0x59 ∷ 0xE2 ∷ 0x3C ∷ [])
+      ≡ record {
+        word = 1;
+        version = 1;
+        status = 5;
+        cop = 0;
+        vc = 22;
+        spare = 1;
+        no_rf = true;
+        no_lock = true;
+        lockout = true;
+        wait = false;
+        retransmit = false;
+        farm_b = 1;
+        spare_end = false;
+        report = 60;
+      }
   pub telecommand :
       tc_header (0x00 ∷ 0x01 ∷ 0x00 ∷ 0x0C ∷ 0x07 ∷ [])
-      ≡ record {
-        version = 0;
-        bypass = false;
-        command = false;
-        spare = 0;
-        spacecraft = 1;
-        vc = 0;
-        length = 12;
-        ns = 7;
-      }
+      ≡ record { version = 0; bypass = false; command = false; spare = 0; spacecraft = 1; vc = 0; length = 12; ns = 7 }
   pub control_command :
       tc_header (0x30 ∷ 0x01 ∷ 0x00 ∷ 0x07 ∷ 0x00 ∷ [])
-      ≡ record {
-        version = 0;
-        bypass = true;
-        command = true;
-        spare = 0;
-        spacecraft = 1;
-        vc = 0;
-        length = 7;
-        ns = 0;
-      }
+      ≡ record { version = 0; bypass = true; command = true; spare = 0; spacecraft = 1; vc = 0; length = 7; ns = 0 }
   pub bypass_telecommand :
       tc_header (0x20 ∷ 0x01 ∷ 0x04 ∷ 0x0C ∷ 0x00 ∷ [])
-      ≡ record {
-        version = 0;
-        bypass = true;
-        command = false;
-        spare = 0;
-        spacecraft = 1;
-        vc = 1;
-        length = 12;
-        ns = 0;
-      }
+      ≡ record { version = 0; bypass = true; command = false; spare = 0; spacecraft = 1; vc = 1; length = 12; ns = 0 }
   pub mixed_telecommand :
       tc_header (0xBE ∷ 0xA9 ∷ 0xA6 ∷ 0xCB ∷ 0xC3 ∷ [])
       ≡ record {
@@ -129,78 +154,37 @@ pub record AreHeaders : Type 0 where
       }
   pub whole_segment :
       segment_header (0xC0 ∷ [])
-      ≡ record {
-        flags = 3;
-        map = 0;
-      }
+      ≡ record { flags = 3; map = 0 }
   pub first_segment :
       segment_header (0x45 ∷ [])
-      ≡ record {
-        flags = 1;
-        map = 5;
-      }
+      ≡ record { flags = 1; map = 5 }
   pub last_segment :
       segment_header (0xA9 ∷ [])
-      ≡ record {
-        flags = 2;
-        map = 41;
-      }
+      ≡ record { flags = 2; map = 41 }
   pub greatest_segment :
       segment_header (0xFF ∷ [])
-      ≡ record {
-        flags = 3;
-        map = 63;
-      }
+      ≡ record { flags = 3; map = 63 }
   pub telemetry_packet :
       packet_header (0x00 ∷ 0x01 ∷ 0xC0 ∷ 0x00 ∷ 0x00 ∷ 0x03 ∷ [])
-      ≡ record {
-        version = 0;
-        kind = 0;
-        secondary = false;
-        apid = 1;
-        flags = 3;
-        count = 0;
-        length = 3;
-      }
+      ≡ record { version = 0; kind = 0; secondary = false; apid = 1; flags = 3; count = 0; length = 3 }
   pub telecommand_packet :
       packet_header (0x10 ∷ 0x01 ∷ 0xC0 ∷ 0x00 ∷ 0x00 ∷ 0x03 ∷ [])
-      ≡ record {
-        version = 0;
-        kind = 1;
-        secondary = false;
-        apid = 1;
-        flags = 3;
-        count = 0;
-        length = 3;
-      }
+      ≡ record { version = 0; kind = 1; secondary = false; apid = 1; flags = 3; count = 0; length = 3 }
   pub greatest_packet :
       packet_header (0xFF ∷ 0xFF ∷ 0xFF ∷ 0xFF ∷ 0xFF ∷ 0xFF ∷ [])
-      ≡ record {
-        version = 7;
-        kind = 1;
-        secondary = true;
-        apid = 2047;
-        flags = 3;
-        count = 16383;
-        length = 65535;
-      }
+      ≡ record { version = 7; kind = 1; secondary = true; apid = 2047; flags = 3; count = 16383; length = 65535 }
   pub mixed_packet :
       packet_header (0x2B ∷ 0x05 ∷ 0x4D ∷ 0x2A ∷ 0x12 ∷ 0x34 ∷ [])
-      ≡ record {
-        version = 1;
-        kind = 0;
-        secondary = true;
-        apid = 773;
-        flags = 1;
-        count = 3370;
-        length = 4660;
-      }
+      ≡ record { version = 1; kind = 0; secondary = true; apid = 773; flags = 1; count = 3370; length = 4660 }
 
 pub headers : AreHeaders
 headers = record {
   telemetry = refl;
+  mixed_telemetry = refl;
   greatest = refl;
   control_word = refl;
+  mixed_control_word = refl;
+  other_control_word = refl;
   telecommand = refl;
   control_command = refl;
   bypass_telecommand = refl;

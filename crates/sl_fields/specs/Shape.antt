@@ -1,4 +1,4 @@
--- Only whether a managed number is outside given bounds. Contracts of `sl_tmframe`, `sl_tcframe`
+-- Whether a managed number is outside given bounds, and no more. Contracts of `sl_tmframe`, `sl_tcframe`
 -- and `sl_link` cite this file. No contract of this crate does. The bounds of frame lengths are in
 -- the contracts of `TmShape::new` and `TcShape::new`.
 use Rattle.std.specs.Prelude.{ℕ, nat_lt, Bool, ◌||◌}

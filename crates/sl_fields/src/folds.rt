@@ -5,7 +5,8 @@
 //! of the squares. x^16 has the remainder of x^12 + x^5 + 1, and squared three times x^128 that of
 //! x^96 + x^40 + 1. So an octet before sixteen octets counts as one before twelve, five and none:
 //! where it is added 4, 11 and 16 places later, a zero may stand in its own place. So too for 8, 22
-//! and 32, and for 16, 44 and 64. The law `runs_may_move` says this; the folds use `part-recurs`.
+//! and 32, and for 16, 44 and 64. The law `runs_may_move` says this; the folds use `part-recurs`
+//! (proofs/FecfRecurrence.antt).
 ghost use Rattle.std.specs.Prelude.{◌≡◌, ◌≤◌, ◌++◌, length, take, drop};
 ghost use Rattle.sl_fields.specs.Fecf.{fecf_of};
 ghost use Rattle.sl_fields.specs.FecfFolds.{part_of, first_two_of};
@@ -24,10 +25,10 @@ pub(crate) fn folded(octets: &[u8]) -> u8x16
 }
 
 // Four slices with the remainder of all: each slice is added to the octets 16, 44 and 64 places
-// later. So a sum takes in the last sum and the one four slices before. Since 44 = 2 * 16 + 12, it
-// also takes in the last twelve octets of the one three slices before, and then four of the next.
-// A sum is a slice with all that was added to it. `oldest` is four slices before the next one,
-// `older` three, `newer` two, and `newest` one.
+// later. A sum is a slice with all that was added to it. So a sum takes in the last sum and the one
+// four slices before. Since 44 = 2 * 16 + 12, it also takes in the last twelve octets of the one
+// three slices before, and the first four of the one two slices before. `oldest` is four slices
+// before the next one, `older` three, `newer` two, and `newest` one.
 #[inline(always)]
 fn four_of_all(octets: &[u8]) -> (u8x16, u8x16, u8x16, u8x16)
     requires { 16 ≤ length octets.now }

@@ -10,7 +10,7 @@
 //!
 //! The crate also has three things that several crates above use: the first and the last octets of
 //! a slice ([`front`], [`back`]), a number from 0 to 255 that is read from text ([`read_decimal`]),
-//! and the reason why frame lengths are refused ([`ShapeFault`]). The definitions `Shape`,
+//! and the reason why frame lengths are refused ([`ShapeFault`]). The definitions `is_outside`,
 //! `NeverFall` and `with_fecf`, and lemmas on lists, joined texts and tests, are for crates above.
 #![tactic(auto)]
 

@@ -161,6 +161,8 @@ both_octets xs ys each = (
   subst IsOctets (drop_at xs ys (length xs) refl) (All-drop (λ octet. octet < 256) (length xs) (xs ++ ys) each),
 )
 
+-- the frames and the remainder of all octets, those held and those of the chunks, are the ones that the framer yields
+-- and leaves
 abbrev AreTheirs : TcFraming → List (List ℕ) → List (List ℕ) → TcFraming → List ℕ → Type 0
 AreTheirs f chunks frames new behind =
     (tc_frames_of f.format (f.rest ++ concat chunks) ≡ frames) × (tc_remainder_of f.format (f.rest ++ concat chunks) ≡ new.rest ++ behind)

@@ -13,11 +13,11 @@ has_flag first (false ∷ flags) zero vc is = none_below (suc first) flags vc (o
 has_flag first (true ∷ flags) (suc k) vc is = rw (ne_eqb vc first (λ e. omega arith)) (has_flag (suc first) flags k vc (omega arith))
 has_flag first (false ∷ flags) (suc k) vc is = has_flag (suc first) flags k vc (omega arith)
 
--- the numbers rise strictly up to 63, where there are no more than 64 flags
 rising_lower : (least : ℕ) (vcs : List ℕ) → AreRising (suc least) vcs → AreRising least vcs
 rising_lower least [] rising = tt
 rising_lower least (vc ∷ vcs) rising = (omega (arith, rising.0), rising.1, rising.2)
 
+-- the numbers rise strictly up to 63, where there are no more than 64 flags
 pub numbers_rise : (first : ℕ) (flags : List Bool) → first + length flags ≤ 64 → AreRising first (numbers_from first flags)
 numbers_rise first [] few = tt
 numbers_rise first (true ∷ flags) few = (omega arith, omega arith, numbers_rise (suc first) flags (omega arith))

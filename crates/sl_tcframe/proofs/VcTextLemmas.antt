@@ -23,6 +23,7 @@ each_vc : (least : ℕ) (vcs : List ℕ) → AreRising least vcs → AllByRecurs
 each_vc least [] rising = tt
 each_vc least (vc ∷ vcs) rising = (rising.1, each_vc (suc vc) vcs rising.2)
 
+-- no number has a comma
 clear : (least : ℕ) (vcs : List ℕ) → AreRising least vcs → AllByRecursion (λ vc. HasNo 44 (decimal vc)) vcs
 clear least [] rising = tt
 clear least (vc ∷ vcs) rising = (no_comma vc rising.1, clear (suc vc) vcs rising.2)

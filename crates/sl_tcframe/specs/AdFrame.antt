@@ -16,7 +16,7 @@ segment_room_of format = format.max - 6 - fecf_len format.fecf
 -- The fields of the header of a frame that has `len` octets, each as its width in bits and its
 -- value: version 0, bypass flag 0, control command flag 0, spare bits 0, the spacecraft, the
 -- virtual channel, the frame length (the octets of the frame minus 1), and N(S). This is
--- `tc_fields (ad_header ..)` of `sl_fields`, written out so that who checks the headline
+-- `tc_fields (ad_header ..)` of `sl_fields`, written out so that whoever checks the headline
 -- (docs/reading.md) has two definitions fewer to read.
 abbrev pub ad_fields : ℕ → ℕ → ℕ → ℕ → List (ℕ × ℕ)
 ad_fields spacecraft vc ns len =
@@ -24,7 +24,7 @@ ad_fields spacecraft vc ns len =
 
 -- the length of a frame whose data field has this number of octets
 abbrev pub ad_len : TcFormat → ℕ → ℕ
-ad_len format octets = 5 + octets + fecf_len format.fecf
+ad_len format unit_len = 5 + unit_len + fecf_len format.fecf
 
 -- the frame of type AD for this spacecraft and virtual channel, with this N(S), whose data field is
 -- this unit

@@ -38,8 +38,8 @@ frame_at None octets = []
 frame_at (Some len) octets = take len octets ∷ []
 
 -- how many octets after the first one are passed over before a frame is looked for again: the
--- others of the frame that begins here, or all where none begins (one more than there are, as a
--- skip past the end is the end); `len` as in `frame_at`
+-- others of the frame that begins here, or all where none begins (the first one is already passed,
+-- so this is one too many, which does no harm); `len` as in `frame_at`
 abbrev pub frame_passed : Option ℕ → List ℕ → ℕ
 frame_passed None octets = length octets
 frame_passed (Some len) octets = len - 1

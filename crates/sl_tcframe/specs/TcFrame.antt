@@ -89,8 +89,8 @@ Carries h field (SetVr vr) = (h.bypass ≡ true) × (h.command ≡ true) × (fie
 -- Why a frame is skipped: a wrong error control field where the format has one; another version
 -- than 0; another spacecraft; more octets than the managed greatest length; the control command
 -- flag without the bypass flag; no data field; or type BC without a control command. `Fecf` tests
--- the whole octets. (In TM it tests the part `fecf`.) For `EachIsRead`, below, holds of any octets,
--- also of fewer than a frame has, and of those the part `fecf` isn't the last two octets.
+-- the whole octets. (In TM it tests the part `fecf`.) The reason: `EachIsRead`, below, holds of any
+-- octets, also of fewer than a frame has, and of those the part `fecf` isn't the last two octets.
 abbrev pub HasReason : TcFormat → ℕ → List ℕ → TcSkip → Type 0
 HasReason format spacecraft frame Fecf = (format.fecf ≡ true) × (fecf_is_good frame ≡ false)
 HasReason format spacecraft frame Version = (tc_header_of frame).version ≢ 0

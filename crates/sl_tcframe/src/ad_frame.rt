@@ -119,7 +119,7 @@ fn push_ad(out: &mut Vec<u8>, shape: &TcShape, frame: &AdFrame) -> Result<(), Al
     requires vc { frame.now.vc ≤ 63 }
     // The two parts together are a data field of at most the greatest length. The bound isn't
     // `plain_room_of`, which is the same for 16 <= max: `push_tc` has the bound of a segment, and
-    // no 16 <= max in its proof (see `frame_len`). For `push_tc_plain` it is enough in any case.
+    // no 16 <= max in its proof (see `frame_len`). For any `max` it is at least `plain_room_of`.
     requires unit { length frame.now.segment_header.now + length frame.now.octets.now
         ≤ 1 + segment_room_of shape.now }
     // The frame is added.

@@ -201,8 +201,8 @@ fn complete(shape: &TcShape, taken: &mut ArrayVec<u8, 1024>, chunk: &mut &[u8]) 
 }
 
 // Whether there are at least `len` octets, the length that the first four state. A function of its
-// own for its proof: where it answers true, `stated_frame_len`, which reads five octets, equals
-// what `len_if_stated` answered, which is `len`.
+// own for its proof: here `octets` is a parameter, so each octet is known to be below 256. So
+// `stated_frame_len`, which reads five octets, equals `len`, which `len_if_stated` answered.
 fn is_whole(octets: &[u8], len: usize) -> bool
     requires stated { len ≡ len_by_four octets.now }
     requires header { 5 ≤ len }

@@ -8,7 +8,8 @@ use Rattle.sl_tmframe.specs.TmDelimited.{IsTmDelimited, tm_frames_of, tm_remaind
 use Rattle.sl_tmframe.specs.TmFraming.{TmFraming, YieldsFrame, YieldsFrames, ended, yielded, used_up, after_call, at_start, AnyChunksAreTaken, ChunksAreDelimited, ShortBecomesFrame}
 use Rattle.sl_tmframe.proofs.DelimitedLemmas.{is_delimited, frames_of-first, frames_of-short, remainder_of-first, remainder_of-short}
 
--- the frames and the remainder of the octets that were taken and that come
+-- the frames and the remainder of all octets, those held and those of the chunks, are the ones that the framer yields
+-- and holds at the end
 abbrev AreTheirs : TmFraming → List (List ℕ) → List (List ℕ) → TmFraming → Type 0
 AreTheirs f chunks frames new =
     (tm_frames_of f.len (f.rest ++ concat chunks) ≡ frames) × (tm_remainder_of f.len (f.rest ++ concat chunks) ≡ new.rest)

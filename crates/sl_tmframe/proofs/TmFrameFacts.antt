@@ -77,7 +77,7 @@ pub record AreWritten : Type 0 where
   pub none : packet_frame (format 32) 1 7 77 200 None field ≡ 0x00 ∷ 0x1E ∷ 77 ∷ 200 ∷ 0x1F ∷ 0xFF ∷ field
   pub error_control : packet_frame (with_error_control 34) 1 0 0 0 (Some 0) field ≡ header 0x18 0x00 ++ field ++ 0x5E ∷ 0x0C ∷ []
   pub room : field_room_of (format 32) ≡ 26
-  pub guarded_room : field_room_of (with_error_control 2048) ≡ 2040
+  pub room_with_error_control : field_room_of (with_error_control 2048) ≡ 2040
 
 pub frames_are_written : AreWritten
 unfolding fecf_of register_of
@@ -86,7 +86,7 @@ frames_are_written = record {
   none = refl;
   error_control = refl;
   room = refl;
-  guarded_room = refl;
+  room_with_error_control = refl;
 }
 
 pub record AreDelimited : Type 0 where

@@ -74,7 +74,7 @@ pub data YieldsFrames : TmFraming → List (List ℕ) → List (List ℕ) → Tm
 -- ---- laws
 
 -- The frames that are yielded are those of the recording, which is the chunks end to end. The
--- octets that are left are its remainder.
+-- octets that are held at the end are its remainder.
 abbrev pub ChunksAreDelimited : Type 0
 ChunksAreDelimited =
     (len : ℕ) (chunks frames : List (List ℕ)) (new : TmFraming) → 0 < len

@@ -38,7 +38,7 @@ pub fn tm_recordings_are_delimited()
 /// A framer that is given a recording in chunks delimits the recording, whatever the division. The
 /// framer is called with what is left of a chunk until nothing is left, and then with the next
 /// chunk. The frames that the framer yields are the recording's frames, and the octets that were
-/// taken after the last frame are the remainder.
+/// taken after the last frame are the remainder. Any list of chunks can be given (clause `any`).
 ///
 /// A remainder can always still become a frame: to octets that are too few for a frame, some octets
 /// can be added at the end so that all of them together are exactly one frame (clause `short`). So

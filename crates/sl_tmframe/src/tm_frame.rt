@@ -9,7 +9,8 @@ use crate::tm_shape::TmShape;
 use sl_fields::{TmHeader, back, fecf_good, front, without_fecf};
 use std::marker::Model;
 
-/// Why a TM transfer frame is skipped. Where several of these reasons hold, the first one is given.
+/// Why a TM transfer frame is skipped. Where several of these reasons hold, the first one is given,
+/// in the order in which they stand here.
 #[derive(Clone, Copy, Debug, PartialEq, Eq)]
 pub enum TmSkip {
     /// The format has a frame error control field, and the field of this frame is wrong.

@@ -167,10 +167,7 @@ pub record AreRecorded : Type 0 where
       ≡ (long ∷ long ∷ (begun ++ remainder) ∷ packet ∷ []) ∷ [] ∷ [] ∷ [] ∷ [] ∷ [] ∷ [] ∷ (long ∷ long ∷ []) ∷ []
 
 pub are_recorded : AreRecorded
-are_recorded = record { whole = refl; left = refl; gap = λ none. absurd (false_isnt_true none.0); whole_lists = refl; left_lists = refl }
-  where
-    false_isnt_true : false ≡ true → ⊥
-    false_isnt_true same = cc
+are_recorded = record { whole = refl; left = refl; gap = λ none. let never = none.0 in cc; whole_lists = refl; left_lists = refl }
 
 -- the gap on virtual channel 7 doesn't matter on virtual channel 0
 pub is_recording_of_kept : IsRecordingOfKept format 1 0 numbers recording damaged

@@ -41,16 +41,13 @@ pub record GapsMatter : Type 0 where
 
 pub gaps_matter : GapsMatter
 gaps_matter = record {
-  gap = λ none. false_isnt_true none.0;
+  gap = λ none. let never = none.0 in cc;
   few = (omega arith, omega arith, tt);
   frames = (stands with_gaps 0 (first 0) refl refl, (stands with_gaps 2 (second 1) refl refl, tt));
   whole = refl;
   left = refl;
   new = not_among;
 }
-  where
-    false_isnt_true : false ≡ true → ⊥
-    false_isnt_true same = cc
 
 -- ---- idle frames
 

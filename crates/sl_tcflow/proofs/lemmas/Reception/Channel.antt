@@ -37,15 +37,11 @@ module _ (held : Option (List ℕ)) (next : List ℕ) where
   abbrev octets : List ℕ
   octets = segment_data next
 
-  -- the series that is incomplete after the next segment, and the unit that ends with it, have no octets but those
-  -- before and the segment's
-  incomplete_most : (first continuing : Bool)
+  -- the series that is incomplete after the next segment, or the unit that ends with it, has no octets but those before
+  -- and the segment's
+  chosen_most : (first continuing : Bool)
       → length (octets_of_series (if first then if_fits octets else if continuing then extended held octets else None)) ≤ length (octets_of_series held) + length octets
-  incomplete_most first continuing = grind (arith, fitting, extending)
-
-  ended_most : (whole last : Bool)
-      → length (octets_of_series (if whole then if_fits octets else if last then extended held octets else None)) ≤ length (octets_of_series held) + length octets
-  ended_most whole last = grind (arith, fitting, extending)
+  chosen_most first continuing = grind (arith, fitting, extending)
 
   goes_on : (flags : ℕ) → flags ≢ 3 → flags ≢ 2 → flags_of next ≡ flags → service_unit_ended held next ≡ None
   goes_on flags not_3 not_2 is = grind (arith, ne_eqb)
@@ -55,12 +51,12 @@ module _ (held : Option (List ℕ)) (next : List ℕ) where
 
   begun : (flags : ℕ) → flags ≢ 3 → flags ≢ 2 → flags_of next ≡ flags
       → length (packets_after held next) + length (octets_of_series (incomplete_after held next)) ≤ length (octets_of_series held) + length octets
-  begun flags not_3 not_2 is = grind (arith, goes_on, incomplete_most)
+  begun flags not_3 not_2 is = grind (arith, goes_on, chosen_most)
 
   -- the packets that end with a segment and the octets held after it, counted together, are no more than the octets
   -- held before it and the segment's
   pub ended_within : length (packets_after held next) + length (octets_of_series (incomplete_after held next)) ≤ length (octets_of_series held) + length octets
-  ended_within = grind (arith, eqb_tells, ends, ending, ended_most)
+  ended_within = grind (arith, eqb_tells, ends, ending, chosen_most)
 
 -- ---- the unit of a frame
 

@@ -36,14 +36,23 @@ def data(random, length, style):
     return random.getrandbits(8 * length).to_bytes(length, "big")
 
 
-class Stream:
-    """The packets of a virtual channel, without an end, taken by fields of frames. `packet` has the next one."""
+class Source:
+    """The packets of a virtual channel, without an end, taken by fields of frames. `apids` has the next count of each."""
 
-    octets, starts = b"", ()
+    def __init__(self, random, apids, lengths, style="noise", idle=0):
+        self.random, self.apids, self.lengths, self.style, self.idle = random, apids, lengths, style, idle
+        self.octets, self.starts = b"", []
+
+    def packet(self):
+        if self.idle and self.random.random() < self.idle:
+            return packet(2047, 0, bytes(self.random.randint(1, 40)))
+        apid = self.random.choice(list(self.apids))
+        self.apids[apid] += 1
+        return packet(apid, self.apids[apid] - 1, data(self.random, self.random.randint(*self.lengths), self.style))
 
     def field(self, room):
         """The next octets of the channel, and the pointer to the first packet that starts in them."""
-        starts = list(self.starts)
+        starts = self.starts
         while len(self.octets) < room:
             starts.append(len(self.octets))
             self.octets += self.packet()
@@ -52,23 +61,10 @@ class Stream:
         return taken, starts[0] if starts and starts[0] < room else 2047
 
 
-class Source(Stream):
-    """A random one."""
-
-    def __init__(self, random, room):
-        self.random = random
-        self.apids = {random.randrange(2047): random.randrange(16384) for _ in range(random.randint(1, 4))}
-        self.style = random.choice(("zeros", "fill", "ramp", "noise"))
-        self.shortest = random.choice((1, 10, 50))
-        self.longest = self.shortest + random.choice((0, 20, room, 3 * room))
-
-    def packet(self):
-        if self.random.random() < 0.05:
-            return packet(2047, 0, bytes(self.random.randint(1, 40)))
-        apid = self.random.choice(list(self.apids))
-        self.apids[apid] += 1
-        length = self.random.randint(self.shortest, self.longest)
-        return packet(apid, self.apids[apid] - 1, data(self.random, length, self.style))
+def any_source(random, room):
+    apids = {random.randrange(2047): random.randrange(16384) for _ in range(random.randint(1, 4))}
+    style, shortest = random.choice(("zeros", "fill", "ramp", "noise")), random.choice((1, 10, 50))
+    return Source(random, apids, (shortest, shortest + random.choice((0, 20, room, 3 * room))), style, 0.05)
 
 
 def flipped(random, frame):
@@ -101,7 +97,7 @@ def tm_frames(random, frames, scid, length, fecf, ocf, vcs):
     """TM frames of one spacecraft, as they were sent. `ocf` is the share of the channels that have a control field."""
     word = {vc: random.random() < ocf for vc in (*vcs, 7)}
     room = {vc: length - 6 - 4 * word[vc] - 2 * fecf for vc in word}
-    sources = {vc: Source(random, room[vc]) for vc in vcs}
+    sources = {vc: any_source(random, room[vc]) for vc in vcs}
     vccs = {vc: random.randrange(256) for vc in word}
     mc, weights, idle = random.randrange(256), [random.random() + 0.1 for _ in vcs], random.choice((0, 0.05, 0.3))
     for _ in range(frames):

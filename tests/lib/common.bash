@@ -1,8 +1,6 @@
-# shellcheck shell=bash disable=SC2034
+# shellcheck shell=bash
 # What the tests in bash share; each sources it first, with the words that it was given. It makes a folder that looks like
 # the top of the repository and goes there, and has the recordings and options that most of them want.
-#
-#     . "$(dirname "$(realpath "$0")")/lib/common.bash" "$@"
 #
 # Each counts what it tries, names what fails, and what is skipped because something isn't there, and closes with a line
 # `N passed, M failed, K skipped`. The program is crates/sllink/out/sllink where none is named. Status: 0 where none
@@ -88,31 +86,29 @@ run() {
 
 # gives STATUS OUTPUT COMMAND..: this status, this output, and nothing on the standard error
 gives() {
-  local wanted=$1 output=$2
-  shift 2
-  run "$@"
-  expect "$*: status" "$wanted" "$status"
-  expect "$*: output" "$output" "$(cat "$log/output")"
-  expect "$*: errors" "" "$(cat "$log/errors")"
+  run "${@:3}"
+  expect "${*:3}: status" "$1" "$status"
+  expect "${*:3}: output" "$2" "$(cat "$log/output")"
+  expect "${*:3}: errors" "" "$(cat "$log/errors")"
 }
 
 # ends STATUS LAST COMMAND..: this status, and this as the last line of the output
 ends() {
-  local wanted=$1 last=$2
-  shift 2
-  run "$@"
-  expect "$*" "$wanted $last" "$status $(tail -n 1 "$log/output")"
+  run "${@:3}"
+  expect "${*:3}" "$1 $2" "$status $(tail -n 1 "$log/output")"
 }
 
 # refuses LINE COMMAND..: status 2, and this one line on the standard error, in which a star stands for anything
 refuses() {
-  local line=$1
-  shift
-  run "$@"
-  expect "$*: status" 2 "$status"
-  expect "$*: lines on the standard error" 1 "$(wc -l < "$log/errors")"
-  # shellcheck disable=SC2053
-  [[ $(cat "$log/errors") == $line ]] || complain "$*: it said '$(cat "$log/errors")' and not '$line'"
+  run "${@:2}"
+  expect "${*:2}: status, and lines on the standard error" "2 1" "$status $(wc -l < "$log/errors")"
+  [[ $(cat "$log/errors") == $1 ]] || complain "${*:2}: it said '$(cat "$log/errors")' and not '$1'"
+}
+
+# declines LINE COMMAND..: the same, and nothing on the standard output
+declines() {
+  refuses "$@"
+  expect "${*:2}: output" "" "$(cat "$log/output")"
 }
 
 # to_nobody COMMAND..: runs it; whoever reads its output has gone
@@ -131,7 +127,6 @@ goes_away() {
 
 # is_left COMMAND..: whoever reads its output goes away after a line
 is_left() {
-  # shellcheck disable=SC2016
   run bash -c '"$@" | head -n 1; exit "${PIPESTATUS[0]}"' - "$@"
   expect "$*: the reader goes away after a line" "2 1 " "$status $(wc -l < "$log/output") $(cat "$log/errors")"
 }
@@ -140,12 +135,6 @@ is_left() {
 program_of() {
   printf '%s\n' '#!/bin/sh' '[ "$1" != --version ] || { echo "sllink 1.0.0"; exit; }' "${@:2}" > "$1"
   chmod +x "$1"
-}
-
-# declines LINE COMMAND..: the same, and nothing on the standard output
-declines() {
-  refuses "$@"
-  expect "${*:2}: output" "" "$(cat "$log/output")"
 }
 
 # refuses_options COMMAND..: a tool, with all its words but options: what it makes of wrong options, of a program that

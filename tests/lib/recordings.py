@@ -37,7 +37,7 @@ def data(random, length, style):
 
 
 class Source:
-    """The packets of a virtual channel, without an end, taken by fields of frames. `apids` has the next count of each."""
+    """The packets of a virtual channel, without an end, taken by fields of frames. `apids` has the count of each."""
 
     def __init__(self, random, apids, lengths, style="noise", idle=0):
         self.random, self.apids, self.lengths, self.style, self.idle = random, apids, lengths, style, idle

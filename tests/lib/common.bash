@@ -139,42 +139,48 @@ program_of() {
 
 # refuses_options COMMAND..: a tool, with all its words but options: what it makes of wrong options, of a program that
 # isn't there, isn't sllink, or has a status or totals that aren't those of a run to the end, of a full standard output,
-# and its help. The first recording is also on the standard input, as a path. All wrong values and all that isn't sllink
+# of a signal while sllink runs, and its help. The first recording is also on the standard input, as a path. All wrong values and all that isn't sllink
 # are tried in python/tests, which reads recordings in the same way.
 refuses_options() {
-  local words=("$@") tool=("$1")
-  [ "$1" != python3 ] || tool=("${@:1:3}")
-  local called=${tool[*]}
-  declines "$called: sllink: *--scid*" "${words[@]}" < /dev/null
-  declines "$called: sllink: *--scid*" "${words[@]}" --scid 1 --scid 1 < /dev/null
-  declines "$called: sllink: *--tm-lenght*" "${words[@]}" --scid 1 --tm-lenght 32 < /dev/null
-  declines "$called: sllink: *; --scid takes a decimal number from 0 to 1023" "${words[@]}" --scid=70000 < /dev/null
-  declines "$called: *sllink: too long; *--limit" "${words[@]}" --scid 1 --limit 100 < <(echo $first)
-  SLLINK=$room/none declines "$called: $room/none: *" "${words[@]}" --scid 1 < /dev/null
-  SLLINK=$room declines "$called: $room: *" "${words[@]}" --scid 1 < /dev/null
-  SLLINK=$(type -P yes) refuses "$called: */yes: isn't sllink, *" "${words[@]}" "${tm[@]}" < <(echo $first)
+  local called=$1
+  [ "$1" != python3 ] || called=${*:1:3}
+  declines "$called: sllink: *--scid*" "$@" < /dev/null
+  declines "$called: sllink: *--scid*" "$@" --scid 1 --scid 1 < /dev/null
+  declines "$called: sllink: *--tm-lenght*" "$@" --scid 1 --tm-lenght 32 < /dev/null
+  declines "$called: sllink: *; --scid takes a decimal number from 0 to 1023" "$@" --scid=70000 < /dev/null
+  declines "$called: *sllink: too long; *--limit" "$@" --scid 1 --limit 100 < <(echo $first)
+  SLLINK=$room/none declines "$called: $room/none: *" "$@" --scid 1 < /dev/null
+  SLLINK=$room declines "$called: $room: *" "$@" --scid 1 < /dev/null
+  SLLINK=$(type -P yes) refuses "$called: */yes: isn't sllink, *" "$@" "${tm[@]}" < <(echo $first)
   program_of other 'exit 1'
-  SLLINK=./other refuses "$called: *sllink: *" "${words[@]}" "${tm[@]}" < <(echo $first)
-  declines "$called: *$called tm|tc *" "${tool[@]}" < /dev/null
-  declines "$called: *$called tm|tc *" "${tool[@]}" tx $first $first --scid 1 < /dev/null
-  run "${words[@]}" --help < /dev/null
+  SLLINK=./other refuses "$called: *sllink: *" "$@" "${tm[@]}" < <(echo $first)
+  declines "$called: *$called tm|tc *" $called < /dev/null
+  declines "$called: *$called tm|tc *" $called tx $first $first --scid 1 < /dev/null
+  run "$@" --help < /dev/null
   expect "$called --help" "0 1" "$status $(grep -c "^ *$called tm|tc " "$log/output")"
   begin
-  "${words[@]}" "${tm[@]}" < <(echo $first) > /dev/full 2> "$log/errors"
+  "$@" "${tm[@]}" < <(echo $first) > /dev/full 2> "$log/errors"
   expect "$called, full device" "2 1" "$? $(wc -l < "$log/errors")"
-  goes_away "${words[@]}" "${tm[@]}" < <(echo $first)
-  goes_away "${words[@]}" --help < /dev/null
+  goes_away "$@" "${tm[@]}" < <(echo $first)
+  goes_away "$@" --help < /dev/null
+  begin
+  program_of slow ': > started' 'sleep 1'
+  rm -f started
+  SLLINK=./slow "$@" "${tm[@]}" < <(echo $first) > /dev/null 2>&1 &
+  timeout 60 sh -c 'until [ -e started ]; do sleep 0.05; done'
+  kill $!
+  wait $!
+  expect "$called, stopped: status, and what is left behind" "2 " "$? $(ls -A "$TMPDIR")"
 }
 
 # refuses_files COMMAND..: a tool, with @ in place of a recording: what it makes of one that isn't there, is a folder, a
 # pipe or a device, or has a name like an option
 refuses_files() {
-  local called=$1 name why
-  [ "$1" != python3 ] || called=${*:1:3}
+  local name why
   mkdir -p folder
   [ -e fifo ] || mkfifo fifo
   while IFS=: read -r name why; do
-    declines "$called: $name:$why" timeout 60 "${@/#@/$name}" "${tm[@]}" < /dev/null
+    declines "$1: $name:$why" timeout 60 "${@/#@/$name}" "${tm[@]}" < /dev/null
   done << 'END'
 missing.tm: there is no such file
 folder: is a folder
@@ -194,19 +200,6 @@ each_odd() {
     rm "./$name"
   done
   [ ! -e stumbled ] || complain "a name was run"
-}
-
-# stops COMMAND..: a tool, with all its words but options, is stopped while sllink runs: it ends with status 2 and
-# leaves nothing behind
-stops() {
-  begin
-  program_of slow ': > started' 'sleep 1'
-  rm -f started
-  SLLINK=./slow "$@" "${tm[@]}" < <(echo $first) > /dev/null 2>&1 &
-  timeout 60 sh -c 'until [ -e started ]; do sleep 0.05; done'
-  kill $!
-  wait $!
-  expect "$1, stopped" "2 " "$? $(ls -A "$TMPDIR")"
 }
 
 # has PROGRAM WHAT: is it there? If not, what it would have tried is skipped.

@@ -12,13 +12,14 @@ import re
 import signal
 import subprocess
 import sys
+from collections import Counter
 from concurrent.futures import ThreadPoolExecutor
 from typing import Any, List, Sequence, Tuple
 
 HERE = os.path.dirname(os.path.realpath(__file__))
 ROOT = os.path.dirname(os.path.dirname(HERE))
 LINE = re.compile(r"(\d+) passed, (\d+) failed(?:, (\d+) skipped)?\n?")
-counted = {"tried": 0, "failed": 0, "skipped": 0}
+counted: "Counter[str]" = Counter()                        # tried, failed, skipped
 fails = False
 # A shell in the background has its commands ignore SIGINT; those that are tried here don't.
 if signal.getsignal(signal.SIGINT) == signal.SIG_IGN:
@@ -77,8 +78,7 @@ def add(what: str, status: int, lines: List[str]) -> None:
     """Adds what a command has counted, which has to close with the line."""
     found = LINE.fullmatch(lines[-1] if lines else "")
     passed, failed, skipped = (int(number or 0) for number in found.groups()) if found else (0, 0, 0)
-    for name, number in ("tried", passed + failed), ("failed", failed), ("skipped", skipped):
-        counted[name] += number
+    counted.update(tried=passed + failed, failed=failed, skipped=skipped)
     if not found or status and not failed:
         ok(False, f"{what}: it ended with status {status}{'' if found else ', and without such a line'}")
 

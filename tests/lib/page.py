@@ -16,13 +16,9 @@ START = '<!doctype html>\n<html lang="en">'
 IN_LINE = {"td", "th", "dt", "dd", "b", "code", "a"}
 
 
-def name_of(it):
-    return it.tag.rpartition("}")[2]                      # in a picture names have a namespace before them
-
-
 def wrong(it):
     """What is wrong with an element."""
-    tag = name_of(it)
+    tag = it.tag
     if tag == "th" and it.get("scope") not in ("col", "row"):
         yield "a head of a table without a scope"
     if tag == "svg" and (it.get("role") != "img" or not it.get("aria-label")):
@@ -38,22 +34,21 @@ def wrong(it):
 
 def text_of(it):
     """The text of an element, but for pictures and styles."""
-    end = " " if name_of(it) in IN_LINE - {"dd"} else "\n"
     parts = [it.text, *(part for of in it for part in (text_of(of), of.tail))]
-    parts = [] if name_of(it) in ("svg", "style") else parts
-    inner = "".join(filter(None, parts))
-    return ("" if name_of(it) in IN_LINE else "\n") + inner + end
+    inner = "" if it.tag in ("svg", "style") else "".join(filter(None, parts))
+    return ("" if it.tag in IN_LINE else "\n") + inner + (" " if it.tag in IN_LINE - {"dd"} else "\n")
 
 
 def main():
     words = sys.stdin.buffer.read().decode()
     complaints = [] if words.startswith(START) else ["no document type or language"]
+    words = re.sub(r' xmlns="[^"]*"', "", words.partition("\n")[2])   # which would stand before names in a picture
     try:
-        page = ElementTree.fromstring(re.sub(r"(<meta [^>]*)>", r"\1/>", words.partition("\n")[2]))
+        page = ElementTree.fromstring(re.sub(r"(<meta [^>]*)>", r"\1/>", words))
     except ElementTree.ParseError as error:
         print(f"not well formed: {error}", file=sys.stderr)
         return 1
-    seen, ids = [name_of(it) for it in page.iter()], [it.get("id") for it in page.iter() if it.get("id")]
+    seen, ids = [it.tag for it in page.iter()], [it.get("id") for it in page.iter() if it.get("id")]
     complaints += [said for it in page.iter() for said in wrong(it)]
     complaints += [f"no {tag}" for tag in ("title", "main", "body") if tag not in seen]
     complaints += ["not one h1"] * (seen.count("h1") != 1)

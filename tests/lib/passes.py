@@ -76,7 +76,6 @@ def uplink(words):
     while number < words.frames:
         vc = rng.randrange(words.channels)
         what = rng.random()
-        frames = []
         octets = recordings.packet(10 + vc, counts[vc], recordings.data(rng, rng.randint(10, 200), "noise"), 1)
         counts[vc] += 1
         if what < 0.04:                                   # outside, some that are refused, and the way out
@@ -115,23 +114,18 @@ def received(frames, words):
         yield frame
 
 
-def recorded(words):
-    """The frames that the station has, as they stand in its recording."""
-    frames = received(downlink(words) if words.kind == "tm" else uplink(words), words)
-    for frame in frames:
-        frame = mixed(frame, words.kind) if words.randomised else frame
-        yield MARKER + frame if words.marked else frame
-
-
-def parsed(line=None):
-    """The words of the command line, or of a list."""
+def recorded(line=None):
+    """The frames as they stand in the station's recording, by the words of the command line, or of a list."""
     parser = argparse.ArgumentParser(description="Writes a recording of a pass.")
     parser.add_argument("kind", choices=("tm", "tc"))
     for name, value, what in WORDS:
         way = {"action": "store_true"} if value is False else {"type": type(value), "default": value}
         parser.add_argument(f"--{name}", help=what, **way)
-    return parser.parse_args(line)
+    words = parser.parse_args(line)
+    for frame in received(downlink(words) if words.kind == "tm" else uplink(words), words):
+        frame = mixed(frame, words.kind) if words.randomised else frame
+        yield MARKER + frame if words.marked else frame
 
 
 if __name__ == "__main__":
-    sys.stdout.buffer.writelines(recorded(parsed()))
+    sys.stdout.buffer.writelines(recorded())

@@ -4,8 +4,8 @@ paragraph, line of a listing and row of a table, with single spaces between its 
     python3 tests/lib/page.py < PAGE.html > TEXT
 
 Status: 0; 1 where the page isn't well formed, has a script or wants something from elsewhere, or lacks what its readers
-need: a language, a title, one heading, heads of tables with a scope, words for a picture. The lines that say so go to
-the standard error.
+need: a language, a title, one heading, heads of tables with a scope, words for a picture. The last lines on the standard
+error say so.
 """
 
 import re
@@ -43,11 +43,7 @@ def main():
     words = sys.stdin.buffer.read().decode()
     complaints = [] if words.startswith(START) else ["no document type or language"]
     words = re.sub(r' xmlns="[^"]*"', "", words.partition("\n")[2])   # which would stand before names in a picture
-    try:
-        page = ElementTree.fromstring(re.sub(r"(<meta [^>]*)>", r"\1/>", words))
-    except ElementTree.ParseError as error:
-        print(f"not well formed: {error}", file=sys.stderr)
-        return 1
+    page = ElementTree.fromstring(re.sub(r"(<meta [^>]*)>", r"\1/>", words))
     seen, ids = [it.tag for it in page.iter()], [it.get("id") for it in page.iter() if it.get("id")]
     complaints += [said for it in page.iter() for said in wrong(it)]
     complaints += [f"no {tag}" for tag in ("title", "main", "body") if tag not in seen]

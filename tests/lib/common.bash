@@ -45,7 +45,6 @@ skip() {
   echo "skipped: $*"
 }
 
-# The end of each.
 finish() {
   echo "$((tried - failed)) passed, $failed failed, $skipped skipped"
   [ "$failed" = 0 ]

@@ -118,12 +118,6 @@ os.close(reader)
 sys.exit(subprocess.run(sys.argv[1:], stdout=writer, check=False).returncode)' "$@"
 }
 
-# goes_away COMMAND..: it ends with status 2, says nothing and leaves nothing behind
-goes_away() {
-  run to_nobody "$@"
-  expect "$*: the reader goes away" "2 " "$status $(cat "$log/errors")"
-}
-
 # is_left COMMAND..: whoever reads its output goes away after a line
 is_left() {
   run bash -c '"$@" | head -n 1; exit "${PIPESTATUS[0]}"' - "$@"
@@ -137,11 +131,11 @@ program_of() {
 }
 
 # refuses_options COMMAND..: a tool, with all its words but options: what it makes of wrong options, of a program that
-# isn't there, isn't sllink, or has a status or totals that aren't those of a run to the end, of a full standard output,
-# of a signal while sllink runs, and its help. The first recording is also on the standard input, as a path. All wrong values and all that isn't sllink
-# are tried in python/tests, which reads recordings in the same way.
+# isn't there, isn't sllink, or has a status or totals that aren't those of a run to the end, of a standard output that is
+# full or that nobody reads, of a signal while sllink runs, and its help. The first recording is also on the standard
+# input, as a path. All wrong values and all that isn't sllink are tried in python/tests.
 refuses_options() {
-  local called=$1
+  local called=$1 options
   [ "$1" != python3 ] || called=${*:1:3}
   declines "$called: sllink: *--scid*" "$@" < /dev/null
   declines "$called: sllink: *--scid*" "$@" --scid 1 --scid 1 < /dev/null
@@ -160,8 +154,10 @@ refuses_options() {
   begin
   "$@" "${tm[@]}" < <(echo $first) > /dev/full 2> "$log/errors"
   expect "$called, full device" "2 1" "$? $(wc -l < "$log/errors")"
-  goes_away "$@" "${tm[@]}" < <(echo $first)
-  goes_away "$@" --help < /dev/null
+  for options in "${tm[*]}" --help; do
+    run to_nobody "$@" $options < <(echo $first)
+    expect "$called $options: the reader goes away" "2 " "$status $(cat "$log/errors")"
+  done
   begin
   program_of slow ': > started' 'sleep 1'
   rm -f started

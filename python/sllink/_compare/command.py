@@ -6,7 +6,7 @@ import sys
 from contextlib import ExitStack, closing
 from hashlib import blake2b
 from itertools import islice
-from typing import Callable, Iterator, List, Optional, Tuple
+from typing import Iterator, List, Optional, Tuple
 
 from .. import SllinkError, lines
 from .._check_words import CHECK_WORDS
@@ -15,7 +15,7 @@ from .._questions import doubted, unanswered
 from .._read import form_of
 from ..tool import Refused, about, shown
 from .difference import Difference, Hunk, Runs
-from .store import Channel, Packets, room
+from .store import Packets, room
 from .union import Union, skip
 from .words import NAME, Words
 
@@ -29,17 +29,16 @@ def main(given: List[str]) -> int:
     for side in 0, 1:
         checked.append(Checked(words, side))
         print(checked[-1], flush=True)
-    doubts = doubts_of(checked, words)
+    # the words that aren't allowed: those of the first recording, then those of the other
+    doubts = list(dict.fromkeys(word for it in checked for word in it.found if word not in words.allowed))
     for asked in unanswered(checked, words.allowed):
         raise Refused(asked)
     same = same_forms(words, checked)
     if not same:
-        found = by_lines(words, checked, doubts)
-        if found and same is False:
+        if not by_lines(words, checked, doubts):
+            return 1
+        if same is False:
             raise Refused("the normal forms differ and the packets don't; did a recording change?")
-        same = found
-    if not same:
-        return 1
     require_none(doubts)
     print("same packets")
     return 0
@@ -50,27 +49,21 @@ class Checked:
 
     def __init__(self, words: Words, side: int) -> None:
         self.kind, self.recording, self.options = words.kind, words.recordings[side], words.options(side)
-        self.found = dict.fromkeys(CHECK_WORDS, 0)
-        self.totals = ""
+        found, self.totals = dict.fromkeys(CHECK_WORDS, 0), ""
         with about(self.recording), closing(lines("check", self.kind, self.recording, self.options)) as listing:
             for line in listing:
                 word = line.split(" ", 2)[1]
-                if word in self.found:
-                    self.found[word] += 1
+                if word in found:
+                    found[word] += 1
                 else:
                     self.totals = line
         words.states[side].require_unchanged()
+        self.found = {word: number for word, number in found.items() if number}
         self.frames, self.skipped, self.packets = map(int, self.totals.split()[1:6:2])
 
     def __str__(self) -> str:
-        found = ", ".join(f"{word} {number}" for word, number in self.found.items() if number)
+        found = ", ".join(f"{word} {number}" for word, number in self.found.items())
         return f"{shown(self.recording)}: {self.totals}" + (f": {found}" if found else "")
-
-
-def doubts_of(checked: List[Checked], words: Words) -> List[str]:
-    """The words that `check` has and that aren't allowed: those of the first recording, then those of the other."""
-    return list(dict.fromkeys(word for it in checked for word, number in it.found.items()
-                              if number and word not in words.allowed))
 
 
 def require_none(doubts: List[str]) -> None:
@@ -122,67 +115,48 @@ def same_forms(words: Words, checked: List[Checked]) -> Optional[bool]:
 
 def by_lines(words: Words, checked: List[Checked], doubts: List[str]) -> bool:
     """Whether the packets are the same, by their lines. Prints which aren't, and writes the union."""
-    def differ() -> None:
-        a, b = map(shown, words.recordings)
-        print(f"different packets: < only in {a}, > only in {b}")
-        for word in doubted(doubts):
-            print(f"check has {word}, which mostly comes of a wrong option; are the options right?")
-
     with ExitStack() as kept:
         union = kept.enter_context(closing(Union(words.union))) if words.union is not None else None
         folder = kept.enter_context(room(NAME, os.environ.get("TMPDIR") or None))
-        listing = Listing(words, checked, folder, union, differ)
-        same = listing.same()
+        sides = [packets_of(words, it, side, folder) for side, it in enumerate(checked)]
+        found, same = Difference(sides, folder), True
+        for channel in found.channels():
+            runs = Runs(channel)
+            listed, united = [[side.lines(channel) for side in sides] for _ in range(2)]
+            for hunk in found.hunks(channel):
+                if same and not hunk.both:
+                    same = False
+                    print_heads(words, doubts)
+                if words.hex:
+                    print_lines(hunk, listed)
+                elif not hunk.both:
+                    sys.stdout.writelines(map(runs.line, runs.of(hunk)))
+                if union:
+                    unite(union, hunk, united)
+            sys.stdout.writelines(map(runs.line, runs.end()))
         if same:
             require_none(doubts)
-        moved = listing.difference.moved
-        if moved:
-            print(f"in another order: {moved} of these packets, which are listed for each")
+        if found.moved:
+            print(f"in another order: {found.moved} of these packets, which are listed for each")
         if union:
             print(union.end())
     return same
 
 
-class Listing:
-    """What is printed of two recordings, and the union of both."""
+def print_heads(words: Words, doubts: List[str]) -> None:
+    """Prints what stands before the first packet that only one recording has."""
+    a, b = map(shown, words.recordings)
+    print(f"different packets: < only in {a}, > only in {b}")
+    for word in doubted(doubts):
+        print(f"check has {word}, which mostly comes of a wrong option; are the options right?")
 
-    def __init__(self, words: Words, checked: List[Checked], folder: str, union: Optional[Union],
-                 differ: Callable[[], None]) -> None:
-        self.words, self.union, self.differ = words, union, differ
-        self.sides = [packets_of(words, checked[side], side, folder) for side in (0, 1)]
-        self.difference = Difference(self.sides, folder)
 
-    def same(self) -> bool:
-        """Goes through the channels; whether the packets are the same."""
-        same = True
-        for channel in self.difference.channels():
-            same = self._channel(channel, same) and same
-        return same
-
-    def _channel(self, channel: Channel, same: bool) -> bool:
-        alike, runs = True, Runs(channel)
-        listed, united = [[side.lines(channel) for side in self.sides] for _ in range(2)]
-        for hunk in self.difference.hunks(channel):
-            if not hunk.both:
-                if alike and same:
-                    self.differ()
-                alike = False
-            if self.words.hex:
-                self._print(hunk, listed)
-            elif not hunk.both:
-                sys.stdout.writelines(map(runs.line, runs.of(hunk)))
-            if self.union:
-                unite(self.union, hunk, united)
-        sys.stdout.writelines(map(runs.line, runs.end()))
-        return alike
-
-    @staticmethod
-    def _print(hunk: Hunk, listed: List[Iterator[bytes]]) -> None:
-        """Prints the lines of what only one recording has."""
-        for side, (_, new) in enumerate(hunk.only):
-            skip(listed[side], hunk.both)
-            for line in islice(listed[side], len(new)):
-                print(f"{'<>'[side]} {line.decode()}", end="")
+def print_lines(hunk: Hunk, listed: List[Iterator[bytes]]) -> None:
+    """Prints the lines of what only one recording has."""
+    for side, (_, new) in enumerate(hunk.only):
+        skip(listed[side], hunk.both)
+        for line in islice(listed[side], len(new)):
+            print(f"{'<>'[side]} {line.decode()}", end="")
 
 
 def unite(union: Union, hunk: Hunk, lines_of: List[Iterator[bytes]]) -> None:

@@ -63,7 +63,7 @@ repository.
 """
 
 import os
-from typing import List, Optional, Set, Tuple
+from typing import List, Optional, Tuple
 
 from .._check_words import CHECK_WORDS
 from .._questions import QUESTIONS
@@ -84,7 +84,7 @@ class Words:
         if len(words) < 3 or words[0] not in ("tm", "tc"):
             raise Refused(USAGE if len(words) < 3 else f"{words[0]}: is no kind of recording; {USAGE}")
         self.kind, self.recordings = words[0], words[1:3]
-        self.allowed: Set[str] = set()
+        self.allowed: List[str] = []
         self.union: Optional[str] = None
         self.own: Tuple[List[str], List[str]] = ([], [])
         for recording in self.recordings:
@@ -96,19 +96,17 @@ class Words:
         others, own = divided(words[3:], VALUED)
         for name, value in own:
             if name == "--allow":
-                self._allow(value)
+                self.allowed += value.replace(",", " ").split()
             elif name == "--union":
                 self.union = self._output(value)
             else:
                 self.own[name == "--b-options"].extend(own_options(name, value))
-        self.hex, self.lines = "--hex" in others, "--lines" in others
-        self.common = [word for word in others if word not in ("--hex", "--lines")]
-
-    def _allow(self, value: str) -> None:
-        for word in value.replace(",", " ").split():
+        for word in self.allowed:
             if word not in ALLOWED:
                 raise Refused(f"--allow: '{word}' is none of: {' '.join(ALLOWED)}")
-            self.allowed.add(word)
+        self.alike = self.own[0] == self.own[1]              # so that normal forms can be compared
+        self.hex, self.lines = "--hex" in others, "--lines" in others
+        self.common = [word for word in others if word not in ("--hex", "--lines")]
 
     def _output(self, value: str) -> str:
         if os.path.isdir(value):
@@ -120,8 +118,3 @@ class Words:
     def options(self, side: int) -> List[str]:
         """The options for one of the recordings."""
         return [*self.common, *self.own[side]]
-
-    @property
-    def alike(self) -> bool:
-        """Whether both recordings are read with the same options, so that normal forms can be compared."""
-        return self.own[0] == self.own[1]

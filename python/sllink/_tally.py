@@ -6,12 +6,11 @@ from hashlib import blake2b
 from typing import Counter, Dict, List, Optional, Sequence, Set, Tuple
 
 from ._compare.difference import COUNTS, Difference, Key, Runs
-from ._compare.store import FIELDS, MOST_PACKETS, RECORD, Channel, Packets
+from ._compare.store import FIELDS, LINE_FEED, MOST_PACKETS, RECORD, Channel, Packets
 from ._program import packet_lines
 from ._records import Run
 from .tool import Refused, shown
 
-LINE_FEED = 10
 MOST_RUNS = 200                                           # that are kept of what one recording lacks
 MOST_APIDS = 16384                                        # that are counted each, as many as a downlink can have
 MOST_NAMES = 12                                           # of channels in a sentence

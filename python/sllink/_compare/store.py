@@ -5,6 +5,7 @@ import os
 import shutil
 import tempfile
 import weakref
+from collections import defaultdict
 from contextlib import contextmanager
 from functools import partial
 from hashlib import blake2b
@@ -72,10 +73,8 @@ class Files:
     names, with few octets each."""
 
     def __init__(self, path: str) -> None:
-        try:
+        with fitting():
             self.file = os.open(path, os.O_RDWR | os.O_CREAT | os.O_EXCL, 0o600)
-        except OSError as error:
-            raise Refused(f"$TMPDIR: {reason_of(error)}") from None
         weakref.finalize(self, os.close, self.file)
         self.path = path
         self.ends: Dict[str, Tuple[int, int]] = {}           # of a name: where its first piece is, and its last one
@@ -127,25 +126,27 @@ class Packets:
     def take(self, listing: Iterable[bytes], kind: str) -> None:
         """Takes the lines of `packets`."""
         at = 3 if kind == "tm" else 5
+        records: Dict[Channel, List[bytes]] = defaultdict(list)
         known: Dict[Key, Tuple[List[bytes], str]] = {}       # of a channel: records, and the name of its lines
         number, pack, add = 0, RECORD.pack, self.files.add
         for line in listing:
             if line[-1] != LINE_FEED:
                 break                                        # it is cut off, and the status says why
             parts = line.split(b" ")
-            channel: Key = parts[1] if at == 3 else (parts[1], parts[3])
+            key: Key = parts[1] if at == 3 else (parts[1], parts[3])
             try:
-                records, name = known[channel]
+                some, name = known[key]
             except KeyError:
-                records, name = known[channel] = [], _name(_channel(channel), "lines")
-            records.append(pack(blake2b(parts[-1], digest_size=16).digest(), int(parts[at]), int(parts[at + 8])))
+                channel = int(parts[1]), -1 if at == 3 else int(parts[3])
+                some, name = known[key] = records[channel], _name(channel, "lines")
+            some.append(pack(blake2b(parts[-1], digest_size=16).digest(), int(parts[at]), int(parts[at + 8])))
             number += 1
             if number >= MOST_PACKETS:
-                self.put_all({_channel(words): some for words, (some, _) in known.items()})
+                self.put_all(records)
                 number = 0
             if self.whole:
                 add(name, line)
-        self.put_all({_channel(words): some for words, (some, _) in known.items()})
+        self.put_all(records)
         self.files.flush()
 
     def put_all(self, records: Dict[Channel, List[bytes]]) -> None:
@@ -165,10 +166,6 @@ class Packets:
         """The lines of a channel, where they are kept."""
         for piece in self.files.pieces(_name(channel, "lines")):
             yield from piece.splitlines(keepends=True)
-
-
-def _channel(words: Key) -> Channel:
-    return (int(words), -1) if isinstance(words, bytes) else (int(words[0]), int(words[1]))
 
 
 def _name(channel: Channel, what: str) -> str:

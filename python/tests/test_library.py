@@ -28,21 +28,8 @@ def setUpModule():
         raise unittest.SkipTest("the library isn't built")
 
 
-class Listings(test_sllink.Listings):
-    by = LIBRARY
-
-
-class Recordings(test_sllink.Recordings):
-    by = LIBRARY
-    test_a_stream = None                                     # the whole of it is read before the first frame comes
-
-
-class NormalForms(test_sllink.NormalForms):
-    by = LIBRARY
-
-
-class Differences(test_sllink.Differences):
-    by = LIBRARY
+# The tests of each Way again, by the library.
+globals().update({it.__name__: type(it.__name__, (it,), {"by": LIBRARY}) for it in test_sllink.Way.__subclasses__()})
 
 
 class ByTheLibrary(test_sllink.InAFolder):
@@ -55,13 +42,10 @@ class ByTheLibrary(test_sllink.InAFolder):
             except sllink.SllinkError as error:
                 return error.status, error.text
 
-        def difference(kind, recording, options, **way):
-            return sllink.difference(kind, recording, recording, options, **way)
-
         for edge in EDGES:
             options = sllink.Options(**{"scid": 1, "tm_length": 32, "tm_fecf": True, **edge})
             for kind in "tm", "tc":
-                for read in [*READERS, difference]:
+                for read in READERS:
                     with self.subTest(edge=edge, kind=kind, read=read):
                         self.assertEqual(answer(read, kind, FIRST, options, program=LIBRARY),
                                          answer(read, kind, FIRST, options))

@@ -99,7 +99,9 @@ def compared(kind, recording, options, *others, **way):
 
 
 READERS = [sllink.frames, checked, sllink.packets, normalised, compared,
-           lambda *words, **way: compared(*words, sllink.Options(1), **way)]
+           lambda *words, **way: compared(*words, sllink.Options(1), **way),
+           lambda kind, it, *more, **way: sllink.difference(kind, it, FIRST, *more, **way),
+           lambda kind, it, *more, **way: sllink.difference(kind, FIRST, it, *more, **way)]
 
 
 def whole(found):
@@ -131,9 +133,10 @@ class InAFolder(unittest.TestCase):
         """It does within two seconds."""
         self.assertTrue(any(that() or time.sleep(0.02) for _ in range(100)))
 
-    def gone(self, number):
-        """A process ends, and is waited for."""
-        self.comes_true(lambda: not os.path.exists(f"/proc/{number}"))
+    def gone(self):
+        """The processes that have written their numbers end, and are waited for."""
+        for number in (self.folder / "numbers").read_text().split():
+            self.comes_true(lambda: not os.path.exists(f"/proc/{number}"))
 
     def refused(self, status, said, read, *words, **more):
         """What it says where a call is refused, with this status and this in its text, by a regular expression."""
@@ -162,31 +165,27 @@ class Listings(Way):
                     self.assertTrue(lines or verb == "packets")
 
     def test_attributes(self):
-        frames = list(sllink.frames("tm", PASS, OF_PASS, program=self.by))
-        first, second = frames[:2]
-        self.assertEqual((first.offset, first.vc, first.mc, first.vcc, first.what, first.first, first.ocf, first.clcw),
-                         (0, 0, 0, 0, "first", 0, None, None))
-        self.assertEqual((second.ocf, second.clcw.word, second.clcw.vr), (0x01000001, 0x01000001, 1))
-        self.assertEqual([type(it).__name__ for it in frames[-3:]], ["Skip", "Skip", "Remainder"])
-        self.assertEqual(frames[-3].reason, "spacecraft")
-        frames = list(sllink.frames("tc", UPLINK, OF_UPLINK, program=self.by))
-        self.assertEqual((frames[0].what, frames[0].ns, frames[0].segment, frames[0].map, frames[0].octets,
-                          frames[0].verdict), ("ad", 0, "whole", 0, 10, "accept"))
-        self.assertEqual([(it.what, it.setvr) for it in frames if getattr(it, "what", "") in ("unlock", "setvr")],
+        tm = list(sllink.frames("tm", PASS, OF_PASS, program=self.by))
+        clcw = sllink.Clcw(word=0x01000001, vc=0, lockout=False, wait=False, retransmit=False, farmb=0, vr=1)
+        self.assertEqual(tm[0], sllink.TmFrame(offset=0, vc=0, mc=0, vcc=0, what="first", first=0, ocf=None, clcw=None))
+        self.assertEqual((tm[1].ocf, tm[1].clcw), (0x01000001, clcw))
+        self.assertEqual([type(it).__name__ for it in tm[-3:]], ["Skip", "Skip", "Remainder"])
+        self.assertEqual(tm[-3].reason, "spacecraft")
+        tc = list(sllink.frames("tc", UPLINK, OF_UPLINK, program=self.by))
+        self.assertEqual(tc[0], sllink.TcFrame(offset=0, vc=0, what="ad", ns=0, setvr=None, segment="whole", map=0,
+                                               octets=10, verdict="accept", clcw=clcw))
+        self.assertEqual([(it.what, it.setvr) for it in tc if getattr(it, "what", "") in ("unlock", "setvr")],
                          [("setvr", 5), ("unlock", None), ("setvr", 5)])
-        self.assertTrue(frames[4].clcw.lockout)
+        self.assertTrue(tc[4].clcw.lockout)
         gap, dropped = sllink.anomalies("tm", THIRD, STATION, program=self.by)
         self.assertEqual((gap.offset, gap.word, gap.vc, gap.expected, gap.found), (256, "gap", 1, 1, 2))
         self.assertEqual((dropped.word, dropped.octets, dropped.map), ("dropped", 24, None))
-
-    def test_packet(self):
         packet = next(sllink.packets("tm", FIRST, STATION, program=self.by))
-        self.assertEqual((packet.vc, packet.map, packet.apid, packet.type, packet.secondary, packet.flags, packet.count,
-                          packet.octets), (0, None, 100, 0, 0, 3, 0, bytes.fromhex("0064c0000005000000000000")))
+        self.assertEqual(packet, sllink.Packet(vc=0, map=None, apid=100, type=0, secondary=0, flags=3, count=0,
+                                               octets=bytes.fromhex("0064c0000005000000000000")))
         packet = next(sllink.packets("tc", UPLINK, OF_UPLINK, program=self.by))
         self.assertEqual((packet.map, packet.type), (0, 1))
-
-    def test_totals_without_the_anomalies(self):
+        # without the anomalies before them
         totals = sllink.anomalies("tm", THIRD, STATION, program=self.by).totals
         self.assertEqual(totals, sllink.Totals(frames=10, skipped=0, packets=4, idle=2, anomalies=2))
 
@@ -238,20 +237,17 @@ class TheOptions(InAFolder):
             "--scid=7", "--tm-length=1115", "--tc-length=1024", "--window=10", "--vr=0", "--limit=1073741824",
             "--tm-fecf", "--tc-fecf", "--vr-of=0:3,5:57", "--plain=5,9"])
         self.assertEqual(list(sllink.anomalies("tm", io.BytesIO(), options)), [])
+        words = ["--scid", "1", "--tm-length=32", "--tm-fecf"]
+        self.assertEqual(list(sllink.packets("tm", FIRST, words)), list(sllink.packets("tm", FIRST, STATION)))
 
     def test_those_of_the_program(self):
         """Each option in the program's help is there, with its default."""
         said = subprocess.check_output([sllink.find_program(), "show", "--help"]).decode()
-        fields = {it.name: it.default for it in dataclasses.fields(sllink.Options)}
-        found = {}
-        for name, more in re.findall(r"^ +(?:-[a-z], )?--([a-z-]+)(.*(?:\n {8,}.*)*)", said, re.M):
-            default = re.search(r"\[default: (\d+)\]", more)
-            found[name.replace("-", "_")] = default and int(default.group(1))
+        found = {name.replace("-", "_"): [int(it) for it in re.findall(r"\[default: (\d+)\]", more)]
+                 for name, more in re.findall(r"^ +(?:-[a-z], )?--([a-z-]+)(.*(?:\n {8,}.*)*)", said, re.M)}
         del found["help"]
-        self.assertEqual(sorted(found), sorted(fields))
-        for name, default in found.items():
-            if default is not None:
-                self.assertEqual(fields[name], default)
+        self.assertEqual(found, {it.name: [it.default] if type(it.default) is int else []
+                                 for it in dataclasses.fields(sllink.Options)})
 
     def test_those_of_the_library(self):
         """Its structures are those of the header, with all options; it is looked for by the name that is installed."""
@@ -264,10 +260,6 @@ class TheOptions(InAFolder):
                          {it for it, _ in _calls.Managed._fields_})
         soname = re.findall(r"^SONAME = (\S+)", (ROOT / "Makefile").read_text(), re.M)
         self.assertEqual([os.path.basename(INSTALLED)], soname)
-
-    def test_each_as_words(self):
-        words = ["--scid", "1", "--tm-length=32", "--tm-fecf"]
-        self.assertEqual(list(sllink.packets("tm", FIRST, words)), list(sllink.packets("tm", FIRST, STATION)))
 
     def test_what_is_no_word(self):
         """Text is no sequence of words."""
@@ -349,18 +341,15 @@ class Recordings(Way):
         self.addCleanup(sending.join)
         return reader
 
-    def test_paths(self):
-        for it in FIRST, str(FIRST), os.fsencode(FIRST):
-            self.check(it)
-
-    def test_file_objects(self):
+    def test_what_is_a_recording(self):
         head, archive = self.file("a", b"head" + self.octets), self.file("a.gz", gzip.compress(self.octets))
         with open(FIRST, "rb") as file, open(FIRST, "rb") as buffered, open(FIRST, "rb", buffering=0) as raw, \
                 gzip.open(archive, "rb") as packed, open(head, "rb") as begun:
             stream = io.BytesIO(b"head" + self.octets)
             for it in begun, stream:
                 self.assertEqual(it.read(4), b"head")
-            for it in file.fileno(), buffered, raw, packed, io.BytesIO(self.octets), begun, stream:
+            for it in (FIRST, str(FIRST), os.fsencode(FIRST), file.fileno(), buffered, raw, packed,
+                       io.BytesIO(self.octets), begun, stream):
                 self.check(it)
 
     def test_what_is_no_recording(self):
@@ -383,43 +372,37 @@ class Recordings(Way):
         with subprocess.Popen(["cp", str(FIRST), str(self.folder / "fifo")]):
             self.check(self.folder / "fifo")
 
+    def test_what_does_not_block(self):
+        """It is waited for, also where read() of a file has None, and read1() nothing, while nothing is there."""
+        for read, buffering in itertools.product((self.check, self.check_octets), (-1, 0, None)):
+            parts = self.octets[:100], self.octets[100:320], self.octets[320:]
+            with os.fdopen(self.sent(*parts), "rb", buffering or 0) as file:
+                read(file.fileno() if buffering is None else file)
+
+
+class Ends(InAFolder):
+    """Programs that stop, and readers that do."""
+
     def test_a_stream(self):
         """The first frame comes before the second one is sent."""
+        octets, wanted = FIRST.read_bytes(), list(sllink.frames("tm", FIRST, STATION))
         for is_number in True, False:
             reader, writer = os.pipe()
             self.addCleanup(signal.alarm, 0)
             signal.alarm(20)
             with os.fdopen(reader, "rb") as file:
-                os.write(writer, self.octets[:32])
+                os.write(writer, octets[:32])
                 frames = sllink.frames("tm", reader if is_number else file, STATION)
-                self.assertEqual(next(frames), self.wanted[0])
-                os.write(writer, self.octets[32:])
+                self.assertEqual(next(frames), wanted[0])
+                os.write(writer, octets[32:])
                 os.close(writer)
-                self.assertEqual(list(frames), self.wanted[1:])
-
-    def test_a_descriptor_that_does_not_block(self):
-        """It is waited for."""
-        for read in self.check, self.check_octets:
-            with os.fdopen(self.sent(self.octets), "rb") as file:
-                read(file.fileno())
-
-    def test_a_file_that_does_not_block(self):
-        """It is waited for, also where read() has None, and read1() nothing, while nothing is there."""
-        for buffering in -1, 0:
-            for read in self.check, self.check_octets:
-                parts = self.octets[:100], self.octets[100:320], self.octets[320:]
-                with os.fdopen(self.sent(*parts), "rb", buffering) as file:
-                    read(file)
+                self.assertEqual(list(frames), wanted[1:])
 
     def test_refused_while_the_recording_waits(self):
         reader, writer = os.pipe()
         with os.fdopen(reader, "rb") as recording:
             self.refused(2, "--spare", sllink.frames, "tm", recording, ["--spare"])
             os.close(writer)
-
-
-class Ends(InAFolder):
-    """Programs that stop, and readers that do."""
 
     def test_no_program(self):
         for name in self.folder / "none", self.folder, PASS, "no-such-program", self.folder / "x" / "y":
@@ -486,26 +469,23 @@ class Ends(InAFolder):
                          len("sllink: ") + 65536)
 
     def test_left_early(self):
-        def started(read, recording, line="0 skip fecf"):
-            program = self.program(f"echo $$ > {self.folder}/number; exec yes '{line}'")
+        """By close(), at the end of a with, and out of a loop."""
+        def started(read, recording=PASS, line="0 skip fecf"):
+            program = self.program(f"echo $$ > {self.folder}/numbers; exec yes '{line}'")
             return read("tm", recording, STATION, program=program)
-
-        def number():
-            return int((self.folder / "number").read_text())
 
         for recording in PASS, io.BytesIO(bytes(10000000)):
             frames = started(sllink.frames, recording)
             next(frames)
-            os.kill(number(), 0)
+            os.kill(int((self.folder / "numbers").read_text()), 0)
             frames.close()
-            self.gone(number())
-        with started(sllink.anomalies, PASS) as anomalies:
+            self.gone()
+        with started(sllink.anomalies) as anomalies:
             next(anomalies)
-        self.gone(number())
-        packet = "vc 0 apid 1 type 0 secondary 0 flags 3 count 0 octets 7 00010203040506"
-        for _ in started(sllink.packets, PASS, packet):
+        self.gone()
+        for _ in started(sllink.packets, line="vc 0 apid 1 type 0 secondary 0 flags 3 count 0 octets 7 00010203040506"):
             break
-        self.gone(number())
+        self.gone()
 
     def test_memory(self):
         """It doesn't grow with the listing."""
@@ -575,31 +555,10 @@ class NormalForms(Way):
             with self.assertRaisesRegex(TypeError, "goes to a path or a binary file object"):
                 sllink.normal_form("tm", FIRST, output, STATION, program=self.by)
 
-    def same(self, *words, kind="tm"):
-        return sllink.same_packets(kind, *words, program=self.by)
-
-    def test_compared(self):
-        for one, other in itertools.product([FIRST, SECOND, THIRD], repeat=2):
-            for recording in one, io.BytesIO(one.read_bytes()):
-                self.assertIs(self.same(recording, other, STATION), one == other or THIRD not in (one, other))
-        self.assertIs(self.same(FIRST, SECOND, STATION, sllink.Options(1, 32, tm_fecf=True, vr=3)), True)
-        self.assertIs(self.same(UPLINK, UPLINK, OF_UPLINK, kind="tc"), True)
-        self.assertIs(self.same(UPLINK, io.BytesIO(), OF_UPLINK, kind="tc"), False)
-
-    def test_compared_with_options_of_its_own(self):
-        """A station that takes the error control field off."""
-        without, with_it = self.file("without", frames_of("abc")), self.file("with", frames_of("abc", fecf=True))
-        options, its = sllink.Options(1, tm_length=32), sllink.Options(1, tm_length=34, tm_fecf=True)
-        self.assertIs(self.same(without, with_it, options, its), True)
-        self.assertIs(self.same(without, with_it, options), False)
-        with_it.write_bytes(with_it.read_bytes()[:68])
-        self.assertIs(self.same(without, with_it, options, its), False)
-
     def test_the_first_difference_ends_both(self):
         program = self.program(f"echo $$ >> {self.folder}/numbers; exec yes $$")
         self.assertIs(sllink.same_packets("tm", os.devnull, os.devnull, STATION, program=program), False)
-        for number in (self.folder / "numbers").read_text().split():
-            self.gone(int(number))
+        self.gone()
 
 
 def frames_of(letters, fecf=False):
@@ -632,18 +591,16 @@ class Identifications(InAFolder):
                 self.assertLessEqual(bool(found.words), bool(found.commands))
 
     def test_paths(self):
+        """The program isn't run."""
         found = sllink.identify(FIRST)
-        self.assertEqual(found, sllink.identify(str(FIRST)))
-        self.assertEqual(found, sllink.identify(os.fsencode(FIRST)))
+        with unittest.mock.patch("subprocess.Popen", side_effect=AssertionError):
+            for path in str(FIRST), os.fsencode(FIRST):
+                self.assertEqual(found, sllink.identify(path))
         self.assertEqual(found, pickle.loads(pickle.dumps(found)))
         with self.assertRaises(TypeError):
             sllink.identify(io.BytesIO())
         with self.assertRaises(dataclasses.FrozenInstanceError):
             found.why = "no"
-
-    def test_the_program_is_not_run(self):
-        with unittest.mock.patch("subprocess.Popen", side_effect=AssertionError):
-            self.assertEqual(sllink.identify(FIRST).kind, "tm")
 
     def test_no_file(self):
         os.mkfifo(self.folder / "pipe")
@@ -657,10 +614,16 @@ class Identifications(InAFolder):
 
 
 class Differences(Way):
-    """What only one of two recordings has."""
+    """What only one of two recordings has, and whether both have the same packets."""
 
-    def found(self, *words, kind="tm"):
-        return list(sllink.difference(kind, *words, program=self.by))
+    def found(self, one, other, *options, kind="tm"):
+        """The runs. There are none exactly where the packets are the same."""
+        runs = list(sllink.difference(kind, one, other, *options, program=self.by))
+        for it in one, other:
+            if hasattr(it, "seek"):
+                it.seek(0)
+        self.assertIs(sllink.same_packets(kind, one, other, *options, program=self.by), not runs)
+        return runs
 
     def test_runs(self):
         for one, other in itertools.product([FIRST, SECOND, THIRD], repeat=2):
@@ -674,6 +637,7 @@ class Differences(Way):
                 self.assertEqual(pickle.loads(pickle.dumps(run)), run)
 
     def test_an_uplink(self):
+        self.assertEqual(self.found(UPLINK, UPLINK, OF_UPLINK, kind="tc"), [])
         for empty in os.devnull, io.BytesIO():
             found = self.found(UPLINK, empty, OF_UPLINK, kind="tc")
             self.assertEqual({(it.side, it.vc, it.map) for it in found}, {("<", 0, 0), ("<", 1, 2)})
@@ -693,11 +657,8 @@ class Differences(Way):
         options, its = sllink.Options(1, tm_length=32), sllink.Options(1, tm_length=34, tm_fecf=True)
         for letters, runs in ("abc", []), ("ac", [sllink.Run(">", 0, None, 1, (98, 98), 1)]):
             self.assertEqual(self.found(io.BytesIO(frames_of(letters)), keeps, options, its), runs)
-
-    def test_no_file(self):
-        for a, b in (FIRST, self.folder / "none"), (self.folder / "none", FIRST):
-            with self.assertRaises(FileNotFoundError):
-                self.found(a, b, STATION)
+        self.assertNotEqual(self.found(io.BytesIO(frames_of("abc")), keeps, options), [])
+        self.assertEqual(self.found(FIRST, SECOND, STATION, sllink.Options(1, 32, tm_fecf=True, vr=3)), [])
 
     def test_what_is_kept(self):
         """Nothing is left behind, also where the loop is left; where there is no room for it that is an OSError."""

@@ -5,10 +5,10 @@ from typing import Any, List, Tuple
 
 from ._options import Options
 
+ROOM = 8                                                     # the answer where the text is longer than the room
+
 
 class Managed(ctypes.Structure):
-    """sllink_managed."""
-
     _fields_ = [
         ("spacecraft", ctypes.c_uint16), ("tm_length", ctypes.c_uint16), ("tc_length", ctypes.c_uint16),
         ("tm_fecf", ctypes.c_bool), ("tc_fecf", ctypes.c_bool), ("window", ctypes.c_uint8), ("vr", ctypes.c_uint8 * 64),
@@ -17,8 +17,6 @@ class Managed(ctypes.Structure):
 
 
 class Totals(ctypes.Structure):
-    """sllink_totals."""
-
     _fields_ = [(name, ctypes.c_uint64)
                 for name in ("octets", "frames", "skipped", "rest", "packets", "idle", "anomalies")]
 
@@ -36,17 +34,19 @@ def loaded(path: str) -> Any:
     return calls
 
 
-def text_of(call: Any, managed: Managed, octets: bytes, room: int) -> Tuple[int, bytes, int]:
-    """What one of the engines answers, as much of its text as there is room for, and the size of all of it."""
-    text, size, totals = ctypes.create_string_buffer(room), ctypes.c_size_t(), Totals()
-    answer: int = call(managed, octets, len(octets), text, room, size, totals)
-    return answer, ctypes.string_at(text, min(size.value, room)), size.value
+def text_of(call: Any, octets: bytes) -> Tuple[int, bytes]:
+    """What one of the engines answers, and its text."""
+    answer, size = ROOM, ctypes.c_size_t(2 * len(octets) + 4096)
+    while answer == ROOM:                                    # where the text is longer, once more
+        text = ctypes.create_string_buffer(size.value)
+        answer = call(octets, len(octets), text, len(text), size, Totals())
+    return answer, ctypes.string_at(text, min(size.value, len(text)))
 
 
-def same_of(call: Any, managed: Managed, one: bytes, other: bytes) -> Tuple[int, bool]:
+def same_of(call: Any, one: bytes, other: bytes) -> Tuple[int, bool]:
     """What is answered of two recordings, and whether they deliver the same packets."""
     same = ctypes.c_bool(False)
-    answer: int = call(managed, one, len(one), other, len(other), same)
+    answer: int = call(one, len(one), other, len(other), same)
     return answer, same.value
 
 

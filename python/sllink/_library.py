@@ -4,6 +4,7 @@ import errno
 import os
 import select
 from dataclasses import replace
+from functools import partial
 from typing import Any, BinaryIO, Optional, Union
 
 from ._fault import SllinkError, explained
@@ -15,7 +16,7 @@ INSTALLED = os.path.normpath(os.path.join(HERE, "../../../../lib/libsllink.so.1"
 
 Recording = Union[str, bytes, "os.PathLike[str]", "os.PathLike[bytes]", int, BinaryIO]
 
-DONE, ROOM = 0, 8
+DONE = 0
 FAULTS = {6: "too long", 7: "memory"}
 
 
@@ -42,31 +43,25 @@ class Library:
 
     def text(self, verb: str, kind: str, recording: Recording, options: Words) -> bytes:
         """What the program writes for a recording."""
-        call, managed = self._call(verb, kind), self._managed(options)
-        octets = octets_of(recording)
-        answer, text, size = self._as_c.text_of(call, managed, octets, 2 * len(octets) + 4096)
-        if answer == ROOM:
-            answer, text, size = self._as_c.text_of(call, managed, octets, size)
+        answer, text = self._as_c.text_of(self._call(verb, kind, options), octets_of(recording))
         _require(answer)
         return bytes(text)
 
     def same_packets(self, kind: str, a: Recording, b: Recording, options: Words) -> bool:
         """Whether two recordings deliver the same packets."""
-        call, managed = self._call("same_packets", kind), self._managed(options)
-        answer, same = self._as_c.same_of(call, managed, octets_of(a), octets_of(b))
+        answer, same = self._as_c.same_of(self._call("same_packets", kind, options), octets_of(a), octets_of(b))
         _require(answer)
         return bool(same)
 
-    def _call(self, verb: str, kind: str) -> Any:
+    def _call(self, verb: str, kind: str, options: Words) -> Any:
+        """A call that has its options."""
         call = getattr(self._calls, f"sllink_{verb}_{kind}", None)
         if call is None or call.argtypes is None:
             raise SllinkError(2, f"sllink: {verb} {kind}: there is no such call")
-        return call
-
-    def _managed(self, options: Words) -> Any:
         if not isinstance(options, Options):
             raise TypeError("the options of a library are an Options")
-        return self._as_c.managed_of(replace(options))       # refused again where its mapping has changed
+        # options are refused again where their mapping has changed
+        return partial(call, self._as_c.managed_of(replace(options)))
 
 
 def _require(answer: int) -> None:

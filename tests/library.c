@@ -16,10 +16,10 @@
 #define _POSIX_C_SOURCE 200809L
 #include <sllink.h>
 
-#include <pthread.h>
 #include <stdio.h>
 #include <stdlib.h>
 #include <string.h>
+#include <ucontext.h>
 
 static int failures;
 
@@ -33,7 +33,7 @@ static void complain(const char *what, int line) {
 /* ---- memory ---- */
 
 /* The linker leads the library's calls of malloc and realloc here. */
-static _Thread_local long refused_one, asked;
+static long refused_one, asked;
 
 void *__real_malloc(size_t size);
 void *__real_realloc(void *block, size_t size);
@@ -68,13 +68,12 @@ typedef struct octets {
 typedef sllink_answer engine(const sllink_managed *, const uint8_t *, size_t, uint8_t *, size_t,
                              size_t *, sllink_totals *);
 
+#define KINDS(verb) {#verb, "tm", sllink_##verb##_tm}, {#verb, "tc", sllink_##verb##_tc}
+
 static const struct {
     const char *verb, *kind;
     engine *call;
-} engines[] = {{"show", "tm", sllink_show_tm},           {"show", "tc", sllink_show_tc},
-               {"check", "tm", sllink_check_tm},         {"check", "tc", sllink_check_tc},
-               {"packets", "tm", sllink_packets_tm},     {"packets", "tc", sllink_packets_tc},
-               {"normalise", "tm", sllink_normalise_tm}, {"normalise", "tc", sllink_normalise_tc}};
+} engines[] = {KINDS(show), KINDS(check), KINDS(packets), KINDS(normalise)};
 
 enum { ENGINES = sizeof engines / sizeof *engines, KEPT = 0xA5 };
 
@@ -116,21 +115,24 @@ static answered called(engine *call, const sllink_managed *managed, octets of, s
     return it;
 }
 
-/* The text of a recording, if it has one: a call with no room, one with enough, and around that. */
-static octets text_of(engine *call, const sllink_managed *managed, octets of) {
-    answered none = called(call, managed, of, 0), whole;
-    free(none.text);
-    if (none.answer != SLLINK_ROOM && none.answer != SLLINK_DONE)
-        return (octets){NULL, 0};
-    whole = called(call, managed, of, none.size);
-    CHECK(whole.answer == SLLINK_DONE && same_numbers(&none, &whole));
-    for (size_t room = none.size > 1 ? none.size - 1 : 0; room <= none.size + 2; room++) {
-        answered other = called(call, managed, of, room);
-        CHECK(same_numbers(&none, &other));
-        CHECK(memcmp(other.text, whole.text, room < none.size ? room : none.size) == 0);
+/* What is answered of a recording, and its text, if it has one: a call with some room, one with
+ * enough, one with none, and around what is enough. */
+static answered text_of(engine *call, const sllink_managed *managed, octets of) {
+    answered some = called(call, managed, of, 100), whole;
+    free(some.text);
+    some.text = NULL;
+    if (some.answer != SLLINK_ROOM && some.answer != SLLINK_DONE)
+        return some;
+    whole = called(call, managed, of, some.size);
+    CHECK(whole.answer == SLLINK_DONE && same_numbers(&some, &whole));
+    const size_t size = whole.size, rooms[] = {0, size - (size > 0), size, size + 1, size + 2};
+    for (size_t i = 0; i < sizeof rooms / sizeof *rooms; i++) {
+        answered other = called(call, managed, of, rooms[i]);
+        CHECK(same_numbers(&whole, &other));
+        CHECK(memcmp(other.text, whole.text, rooms[i] < size ? rooms[i] : size) == 0);
         free(other.text);
     }
-    return (octets){whole.text, none.size};
+    return whole;
 }
 
 typedef sllink_answer comparison(const sllink_managed *, const uint8_t *, size_t, const uint8_t *,
@@ -148,17 +150,16 @@ typedef struct job {
 
 static octets octets_of(const char *path) {
     FILE *file = fopen(path, "rb");
-    octets it;
-    if (file == NULL || fseek(file, 0, SEEK_END) != 0) {
+    octets it = {NULL, 0};
+    if (file != NULL && fseek(file, 0, SEEK_END) == 0) {
+        it.length = (size_t)ftell(file);
+        it.at = block_of(NULL, it.length);
+        rewind(file);
+    }
+    if (it.at == NULL || fread(it.at, 1, it.length, file) != it.length || fclose(file) != 0) {
         perror(path);
         exit(2);
     }
-    it.length = (size_t)ftell(file);
-    it.at = block_of(NULL, it.length);
-    rewind(file);
-    if (fread(it.at, 1, it.length, file) != it.length)
-        exit(2);
-    fclose(file);
     return it;
 }
 
@@ -208,17 +209,15 @@ static void jobs(void) {
             printf("%s %s %d %s\n", it.path, it.output, (int)answer, same ? "same" : "other");
             continue;
         }
-        answered some = called(it.call, &it.managed, it.recording, 100);
-        free(some.text);
-        printf("%s %s %d\n", it.path, it.output, (int)some.answer);
-        if (some.answer != SLLINK_DONE && some.answer != SLLINK_ROOM)
+        answered found = text_of(it.call, &it.managed, it.recording);
+        printf("%s %s %d\n", it.path, it.output, (int)found.answer);
+        if (found.text == NULL)
             continue;
-        octets text = text_of(it.call, &it.managed, it.recording);
         FILE *file = fopen(it.output, "wb");
-        if (file == NULL || text.at == NULL || fwrite(text.at, 1, text.length, file) != text.length
+        if (file == NULL || fwrite(found.text, 1, found.size, file) != found.size
             || fclose(file) != 0)
             complain(it.output, __LINE__);
-        free(text.at);
+        free(found.text);
     }
 }
 
@@ -262,7 +261,7 @@ static uint8_t *exact[8], lent[1 << 16];
     done |= sllink_##name##_write(&a_##name, exact[size]);
 
 /* Each call that takes no recording; tests/library looks at what they answer. */
-static void *other_calls(void *with) {
+static void other_calls(void) {
     static sllink_farm f;
     static sllink_verdict verdict;
     unsigned done = sllink_farm_new(&f, 10, 0);
@@ -277,61 +276,43 @@ static void *other_calls(void *with) {
     (void)(sllink_fecf(lent, sizeof lent) + sllink_farm_vr(&f));
     for (size_t length = 0; length < 8; length++)
         (void)(sllink_fecf(exact[length], length) + sllink_fecf_good(exact[length], length));
-    return done == SLLINK_DONE ? with : NULL;
+    CHECK(done == SLLINK_DONE);
 }
 
 /* ---- stack ---- */
 
 enum { STACK = 1 << 20, RECORDINGS_STACK = 256 << 10, OTHER_STACK = 8 << 10 };
 
-typedef struct task {
-    void *(*does)(void *);
-    void *with;
-} task;
+static job the_job;
 
-/* Does it below what the beginning and the end of a thread touch. */
-static void *below(void *with) {
-    const task *it = with;
-    volatile uint8_t above[1 << 15];
-    above[0] = 1;
-    void *done = it->does(it->with);
-    return above[0] == 1 ? done : NULL;
-}
-
-/* How much of its stack a thread touches that does this. */
-static size_t touched(void *(*does)(void *), void *with) {
-    pthread_t thread;
-    pthread_attr_t painted;
-    task it = {does, with};
-    uint8_t *stack = aligned_alloc(4096, STACK);
-    size_t left = 0;
-    if (stack == NULL)
-        exit(2);
-    memset(stack, KEPT, STACK);
-    CHECK(pthread_attr_init(&painted) == 0 && pthread_attr_setstack(&painted, stack, STACK) == 0);
-    CHECK(pthread_create(&thread, &painted, below, &it) == 0 && pthread_join(thread, NULL) == 0);
-    while (left < STACK && stack[left] == KEPT)
-        left++;
-    pthread_attr_destroy(&painted);
-    free(stack);
-    return STACK - left;
-}
-
-static void *nothing(void *with) {
-    return with;
-}
-
-static void *the_job(void *with) {
+static void answer_the_job(void) {
     size_t size;
     bool same;
-    return answer_of(with, lent, sizeof lent, &size, &same) == SLLINK_DONE ? with : NULL;
+    (void)answer_of(&the_job, lent, sizeof lent, &size, &same);
+}
+
+/* How much of a stack of its own is touched by what does this. */
+static size_t touched(void (*does)(void)) {
+    static uint8_t stack[STACK];
+    static ucontext_t here, there;
+    size_t left = 0;
+    memset(stack, KEPT, STACK);
+    CHECK(getcontext(&there) == 0);
+    there.uc_stack.ss_sp = stack;
+    there.uc_stack.ss_size = STACK;
+    there.uc_link = &here;
+    makecontext(&there, does, 0);
+    CHECK(swapcontext(&here, &there) == 0);
+    while (left < STACK && stack[left] == KEPT)
+        left++;
+    return STACK - left;
 }
 
 /* A call takes no more stack than the header says. */
 static void stack(void) {
-    size_t before = touched(nothing, NULL), most = 0, other = touched(other_calls, NULL) - before;
-    for (job it; next_job(&it); end_job(&it)) {
-        size_t found = touched(the_job, &it) - before;
+    size_t most = 0, other = touched(other_calls);
+    for (; next_job(&the_job); end_job(&the_job)) {
+        size_t found = touched(answer_the_job);
         most = found > most ? found : most;
     }
     CHECK(most <= RECORDINGS_STACK);
@@ -339,15 +320,11 @@ static void stack(void) {
     printf("%zu octets of stack, other calls %zu\n", most, other);
 }
 
-static void calls(void) {
-    CHECK(other_calls(exact) == exact);
-}
-
 int main(int argc, char **argv) {
     static const struct {
         const char *name;
         void (*runs)(void);
-    } modes[] = {{"calls", calls}, {"jobs", jobs}, {"memory", memory}, {"stack", stack}};
+    } modes[] = {{"calls", other_calls}, {"jobs", jobs}, {"memory", memory}, {"stack", stack}};
     for (size_t length = 0; length < 8; length++)
         exact[length] = block_of(lent, length);
     for (size_t i = 0; argc == 2 && i < sizeof modes / sizeof *modes; i++)

@@ -27,20 +27,20 @@ class Refused(Exception):
     """Why the tool can't do what is asked, in a line; its status is 2."""
 
 
-def require_file(path: Union[str, bytes], again: bool = True) -> None:
-    """Refuses what is no file to read, with `again` also what can't be read more than once, as a pipe; and files of the
-    system, which have octets and no size: some of them never end."""
+def require_file(path: Union[str, bytes], why: str = "is no file that can be read more than once") -> None:
+    """Refuses what can't be read; for this reason what is no file, as a pipe; and files of the system, which have octets
+    and no size: some of them never end."""
     try:
         mode, size = os.stat(path).st_mode, os.stat(path).st_size
     except (OSError, ValueError) as error:
         raise Refused(f"{shown(path)}: {reason_of(error)}") from None
     if stat.S_ISDIR(mode):
         raise Refused(f"{shown(path)}: is a folder")
-    if again and not stat.S_ISREG(mode):
-        raise Refused(f"{shown(path)}: is no file that can be read more than once")
+    if not stat.S_ISREG(mode):
+        raise Refused(f"{shown(path)}: {why}")
     if not os.access(path, os.R_OK):
         raise Refused(f"{shown(path)}: can't be read: {os.strerror(errno.EACCES)}")
-    if stat.S_ISREG(mode) and not size:
+    if not size:
         with contextlib.suppress(OSError), open(os.open(path, os.O_RDONLY | os.O_NONBLOCK), "rb", buffering=0) as file:
             if file.read(1) != b"":
                 raise Refused(f"{shown(path)}: is no file with a size, but one of the system")
@@ -119,28 +119,28 @@ def _identify(recording: str) -> List[str]:
     return lines if asked.returncode in (0, 1) and len(lines) > 1 else []
 
 
-def divided(words: List[str], valued: Dict[str, str]) -> Tuple[List[str], List[Tuple[str, str]]]:
-    """The words without the options of a tool that have a value, and these with their values. `valued` has what each of
-    them wants."""
+def divided(words: List[str], valued: Dict[str, str]) -> Tuple[List[str], Dict[str, List[str]]]:
+    """The words without the options of a tool that have a value, and the values of each of these. `valued` has what each
+    of them wants."""
     # not by argparse, which refuses `--a-options --tm-fecf`, as a value begins with a dash there
     others: List[str] = []
-    own: List[Tuple[str, str]] = []
+    own: Dict[str, List[str]] = {name: [] for name in valued}
     rest = deque(words)
     while rest:
         name, equals, value = (word := rest.popleft()).partition("=")
         if name not in valued:
             others.append(word)
         elif equals or rest:
-            own.append((name, value if equals else rest.popleft()))
+            own[name].append(value if equals else rest.popleft())
         else:
             raise Refused(f"{name} wants {valued[name]}")
     return others, own
 
 
-def own_options(name: str, text: str) -> List[str]:
+def own_options(name: str, texts: List[str]) -> List[str]:
     """The words of the options that an option of a tool has for one recording."""
     try:
-        words = shlex.split(text)
+        words = [word for text in texts for word in shlex.split(text)]
     except ValueError as error:
         raise Refused(f"{name}: {error}") from None
     for asked in filter(ASKS, words):

@@ -23,7 +23,6 @@ LARGE = 256 << 20                                         # octets from which on
 
 
 def main(given: List[str]) -> int:
-    """Compares two recordings; the status."""
     words = Words(given)
     checked = []
     for side in 0, 1:
@@ -48,7 +47,7 @@ class Checked:
     """The totals of a recording, and how many lines of each word `check` has."""
 
     def __init__(self, words: Words, side: int) -> None:
-        self.kind, self.recording, self.options = words.kind, words.recordings[side], words.options(side)
+        self.kind, self.recording, self.options = words.kind, words.recordings[side], words.options[side]
         found, self.totals = dict.fromkeys(CHECK_WORDS, 0), ""
         with about(self.recording), closing(lines("check", self.kind, self.recording, self.options)) as listing:
             for line in listing:
@@ -94,7 +93,7 @@ def digest_of(it: Checked) -> Tuple[bytes, int]:
 
 def same_forms(words: Words, checked: List[Checked]) -> Optional[bool]:
     """Whether the normal forms are the same; None where they don't decide. They have packets where `check` has some."""
-    if words.lines or words.union or not words.alike or any(
+    if words.lines or words.union or words.options[0] != words.options[1] or any(
             os.stat(recording).st_size > LARGE for recording in words.recordings):
         return None
     digests = []
@@ -160,7 +159,6 @@ def print_lines(hunk: Hunk, listed: List[Iterator[bytes]]) -> None:
 
 
 def unite(union: Union, hunk: Hunk, lines_of: List[Iterator[bytes]]) -> None:
-    """Writes the packets of both."""
     if hunk.both:
         union.write(islice(lines_of[0], hunk.both))
         skip(lines_of[1], hunk.both)

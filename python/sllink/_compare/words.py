@@ -63,7 +63,7 @@ repository.
 """
 
 import os
-from typing import List, Optional, Tuple
+from typing import List
 
 from .._check_words import CHECK_WORDS
 from .._questions import QUESTIONS
@@ -84,9 +84,6 @@ class Words:
         if len(words) < 3 or words[0] not in ("tm", "tc"):
             raise Refused(USAGE if len(words) < 3 else f"{words[0]}: is no kind of recording; {USAGE}")
         self.kind, self.recordings = words[0], words[1:3]
-        self.allowed: List[str] = []
-        self.union: Optional[str] = None
-        self.own: Tuple[List[str], List[str]] = ([], [])
         for recording in self.recordings:
             if recording.startswith("--"):
                 raise Refused(f"the recordings come before the options, and one named {recording} is ./{recording}; "
@@ -94,19 +91,14 @@ class Words:
             require_name(recording)
         self.states = [State(recording) for recording in self.recordings]
         others, own = divided(words[3:], VALUED)
-        for name, value in own:
-            if name == "--allow":
-                self.allowed += value.replace(",", " ").split()
-            elif name == "--union":
-                self.union = self._output(value)
-            else:
-                self.own[name == "--b-options"].extend(own_options(name, value))
+        self.allowed = " ".join(own["--allow"]).replace(",", " ").split()
         for word in self.allowed:
             if word not in ALLOWED:
                 raise Refused(f"--allow: '{word}' is none of: {' '.join(ALLOWED)}")
-        self.alike = self.own[0] == self.own[1]              # so that normal forms can be compared
+        self.union = self._output(own["--union"][-1]) if own["--union"] else None
         self.hex, self.lines = "--hex" in others, "--lines" in others
-        self.common = [word for word in others if word not in ("--hex", "--lines")]
+        common = [word for word in others if word not in ("--hex", "--lines")]
+        self.options = [[*common, *own_options(name, own[name])] for name in ("--a-options", "--b-options")]
 
     def _output(self, value: str) -> str:
         if os.path.isdir(value):
@@ -114,7 +106,3 @@ class Words:
         if any(os.path.exists(value) and os.path.samefile(value, recording) for recording in self.recordings):
             raise Refused(f"--union: {shown(value)}: is one of the recordings")
         return value
-
-    def options(self, side: int) -> List[str]:
-        """The options for one of the recordings."""
-        return [*self.common, *self.own[side]]

@@ -29,11 +29,7 @@ code,pre{font-family:ui-monospace,"DejaVu Sans Mono",Menlo,Consolas,monospace;fo
 border-left:5px solid var(--soft)}
 .verdict.good{border-color:var(--good)}.verdict.mixed{border-color:var(--mixed)}.verdict.bad{border-color:var(--bad)}
 .verdict p{margin:0}.verdict p+p{margin-top:.5rem;font-size:1rem}
-.scroll{overflow-x:auto;max-width:100%;background:linear-gradient(to right,var(--page) 30%,transparent) left/2rem 100%,
-linear-gradient(to left,var(--page) 30%,transparent) right/2rem 100%,
-linear-gradient(to right,var(--line),transparent) left/.75rem 100%,
-linear-gradient(to left,var(--line),transparent) right/.75rem 100%;background-repeat:no-repeat;
-background-attachment:local,local,scroll,scroll}
+.scroll{overflow-x:auto;max-width:100%}
 .scroll:focus-visible{outline:2px solid var(--ink);outline-offset:2px}
 table{border-collapse:collapse;font-variant-numeric:tabular-nums;font-size:.9375rem;margin:.5rem 0}
 th,td{padding:.3rem .6rem;text-align:right;border-bottom:1px solid var(--line);white-space:nowrap}

@@ -23,8 +23,6 @@ MISSING = ("Missing counts are known by the virtual channel frame counts, modulo
            "before the first frame and after the last one. The picture has them beside the marks of gaps.")
 
 MOST_CLCWS = 12                                           # pairs of channels that are all shown
-FLAGS = {"lockout": "Lockout", "wait": "Wait", "retransmit": "Retransmit", "no RF": "No RF Available",
-         "no bit lock": "No Bit Lock"}
 
 
 class Recording:
@@ -42,19 +40,15 @@ class Recording:
         kind, path, options = self.words
         with about(path):
             self.survey = Survey(kind, path, options, span, self.state)
-        self.digest = digest_of(path)
+        digest = hashlib.sha256()
+        with open(path, "rb") as file:
+            for octets in iter(lambda: file.read(1 << 16), b""):
+                digest.update(octets)
+        self.digest = digest.hexdigest()
         self.asked = questions(self.survey)
         self.state.require_unchanged()
         self.name = self.survey.name
         return self
-
-
-def digest_of(path: str) -> str:
-    digest = hashlib.sha256()
-    with open(path, "rb") as file:
-        for octets in iter(lambda: file.read(1 << 16), b""):
-            digest.update(octets)
-    return digest.hexdigest()
 
 
 def report_of_one(kind: str, path: str, options: Sequence[str]) -> str:
@@ -102,11 +96,9 @@ def read_as(it: Recording) -> str:
 
 def facts_of(it: Recording) -> List[Tuple[str, str]]:
     survey = it.survey
-    totals = [f"{survey.frames:,} frames", f"{survey.skipped:,} skipped"]
-    if survey.kind == "tm":
-        totals.append(f"{lost_frames(survey):,} lost")
-    totals += [f"{survey.packets:,} packets", f"{survey.idle:,} idle packets",
-               f"{sum(survey.anomalies.values()):,} anomalies"]
+    totals = [f"{survey.frames:,} frames", f"{survey.skipped:,} skipped",
+              *[f"{lost_frames(survey):,} lost"] * (survey.kind == "tm"), f"{survey.packets:,} packets",
+              f"{survey.idle:,} idle packets", f"{sum(survey.anomalies.values()):,} anomalies"]
     return [("Totals", ", ".join(totals)), ("Octets", f"{survey.size:,}"), ("SHA-256", it.digest)]
 
 
@@ -202,7 +194,7 @@ def clcws(survey: Survey) -> List[str]:
     reports = sorted(survey.reports.items())
     if len(reports) <= MOST_CLCWS:
         return [clcws_of(reports).html()]
-    flags = [tuple(name for flag, name in FLAGS.items() if it.having(flag)) for _, it in reports]
+    flags = [tuple(filter(it.having, it.BITS)) for _, it in reports]
     usual, number = Counter(flags).most_common(1)[0]
     others = sorted((it for it, its in zip(reports, flags) if its != usual), key=lambda it: -it[1].number)
     table = clcws_of(sorted(others[:MOST_CLCWS]))
@@ -215,8 +207,8 @@ def clcws(survey: Survey) -> List[str]:
 
 def clcws_of(reports: Sequence[Tuple[Tuple[int, int], Reports]]) -> Table:
     return Table("CLCWs", ["Virtual channel", "#of TC channel", "CLCWs", "#First V(R)", "#Last V(R)",
-                           *(f"!{name}" for name in FLAGS.values())],
-                 [[vc, link_vc, it.number, it.first & 255, it.last & 255, *map(it.having, FLAGS)]
+                           *(f"!{name}" for name in Reports.BITS)],
+                 [[vc, link_vc, it.number, it.first & 255, it.last & 255, *map(it.having, it.BITS)]
                   for (vc, link_vc), it in reports])
 
 
@@ -271,17 +263,12 @@ def lacked(one: Recording, other: Recording, lacks: Lacks) -> List[str]:
 def differing(one: Recording, other: Recording, lacks: Lacks) -> Table:
     """The APIDs where one recording lacks packets."""
     with_map = one.survey.kind == "tc"
-    names = [shortened(it.name) for it in (one, other)]
+    names = one.name, other.name
     return Table("APIDs with missing packets",
                  ["Virtual channel", *["#MAP"] * with_map, "#APID", *(f"Packets in {name}" for name in names),
                   *(f"!Lacked by {name}" for name in names)],
                  [[*columns(key, with_map), one.tally.of(key), other.tally.of(key), there - moved, here - moved]
                   for key, (here, there, moved) in sorted(lacks.each.items()) if here > moved or there > moved])
-
-
-def shortened(name: str) -> str:
-    """A name that fits into the head of a column."""
-    return name if len(name) <= 32 else f"{name[:16]}..{name[-14:]}"
 
 
 def runs(it: Recording, lacks: Lacks, side: int) -> List[str]:

@@ -119,7 +119,7 @@ class Reports:
     """The CLCWs that a TM channel carries on a TC channel: how many, how many with a flag, the first and the last."""
 
     __slots__ = ("number", "flags", "first", "last")
-    BITS = {"no RF": 15, "no bit lock": 14, "lockout": 13, "wait": 12, "retransmit": 11}
+    BITS = {"Lockout": 13, "Wait": 12, "Retransmit": 11, "No RF Available": 15, "No Bit Lock": 14}
 
     def __init__(self, word: int) -> None:
         self.number, self.first, self.last = 0, word, word
@@ -256,12 +256,9 @@ class Survey:
             word = int(digits, 16)
             key = int(row), word >> 18 & 63
             (self.reports.get(key) or self.reports.setdefault(key, Reports(word))).add(word, times)
-        last: Dict[Tuple[int, int], int] = {}
-        for row, digits in dict.fromkeys(reversed(words)):
+        for row, digits in reversed([*dict.fromkeys(reversed(words))]):    # in the order of their last ones
             word = int(digits, 16)
-            last.setdefault((int(row), word >> 18 & 63), word)
-        for key, word in last.items():
-            self.reports[key].last = word
+            self.reports[int(row), word >> 18 & 63].last = word
 
     def _add_tc(self, stretch: int, piece: bytes) -> None:
         """Adds lines of `show tc` that lie in one stretch."""

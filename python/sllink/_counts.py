@@ -2,6 +2,7 @@
 
 from heapq import merge
 from itertools import groupby
+from operator import itemgetter
 from struct import Struct
 from tempfile import TemporaryFile
 from typing import Any, BinaryIO, Dict, Iterable, Iterator, List, Sequence, Tuple
@@ -70,25 +71,21 @@ def _rows(found: Dict[Key, List[int]]) -> Iterator[bytes]:
     found.clear()
 
 
-def _part(file: BinaryIO, at: int, end: int) -> Iterator[bytes]:
+def _part(file: BinaryIO, at: int, end: int) -> Iterator[Tuple[Any, ...]]:
     """The rows of a part of a file."""
     while at < end:
         file.seek(at)
         some = file.read(min(READ, end - at))
-        yield from (some[row:row + ROW.size] for row in range(0, len(some), ROW.size))
+        yield from ROW.iter_unpack(some)
         at += len(some)
 
 
-def _merged(*parts: Iterator[bytes]) -> Iterator[bytes]:
+def _merged(*parts: Iterator[Tuple[Any, ...]]) -> Iterator[bytes]:
     """The rows of all parts, of which a later one goes on where an earlier one ended."""
-    for _, rows in groupby(merge(*parts, key=_key), _key):
-        vc, map_id, apid, *sums, first, last = ROW.unpack(next(rows))
-        for row in rows:
-            *_, packets, octets, jumps, here, end = ROW.unpack(row)
+    key = itemgetter(0, 1, 2)
+    for channel, rows in groupby(merge(*parts, key=key), key):
+        _, _, _, *sums, first, last = next(rows)
+        for _, _, _, packets, octets, jumps, here, end in rows:
             sums = [sums[0] + packets, sums[1] + octets, sums[2] + jumps + ((last + 1) % 16384 != here)]
             last = end
-        yield ROW.pack(vc, map_id, apid, *sums, first, last)
-
-
-def _key(row: bytes) -> bytes:
-    return row[:4]
+        yield ROW.pack(*channel, *sums, first, last)

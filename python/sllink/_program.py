@@ -63,8 +63,7 @@ def require_sllink(name: str) -> None:
             child.kill()
     if not answered:
         raise SllinkError(127, f"{name}: isn't sllink, by its answer to --version; $SLLINK says where sllink is")
-    if key:
-        _known.add(key)
+    _known.add(key)
 
 
 class Child:

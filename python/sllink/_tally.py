@@ -45,7 +45,6 @@ class Tally:
         self._read(recording, options, kept)              # the last count and one, or 0
 
     def packets(self) -> int:
-        """How many packets there are."""
         return sum(count.packets for count in self.counts.values()) + self.others.packets
 
     def of(self, key: Key) -> Optional[int]:

@@ -32,7 +32,6 @@ class Difference:
         self.sides, self.folder, self.moved = sides, folder, 0
 
     def channels(self) -> List[Channel]:
-        """The channels of both."""
         return sorted({channel for side in self.sides for channel in side.channels})
 
     def hunks(self, channel: Channel) -> Iterator[Hunk]:
@@ -133,16 +132,13 @@ class Runs:
         return run
 
     def end(self) -> Iterator[List[int]]:
-        """The runs that are left."""
         while self.runs:
             yield self._ended()
 
     def value(self, run: List[int]) -> Run:
-        """A run as a value."""
         side, apid, first, last, packets, _ = run
         return Run("<>"[side], self.vc, self.map, apid, (first, last), packets)
 
     def line(self, run: List[int]) -> str:
-        """The line of a run."""
         side, apid, first, last, packets, _ = run
         return run_line("<>"[side], self.name, apid, first, last, packets) + "\n"

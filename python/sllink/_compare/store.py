@@ -82,14 +82,12 @@ class Files:
         self.number, self.size = 0, LINK.size                # of octets in memory, and in the file
 
     def add(self, name: str, octets: bytes) -> None:
-        """Adds octets to a name."""
         self.kept.setdefault(name, []).append(octets)
         self.number += len(octets) + 40
         if self.number > KEPT:
             self.flush()
 
     def flush(self) -> None:
-        """Writes what is kept in memory."""
         with fitting():
             for name, some in self.kept.items():
                 octets = b"".join(some)
@@ -159,7 +157,6 @@ class Packets:
                 some.clear()
 
     def records(self, channel: Channel) -> "Records":
-        """The records of a channel."""
         return Records(partial(self.files.pieces, _name(channel, "records")), self.channels.get(channel, 0))
 
     def lines(self, channel: Channel) -> Iterator[bytes]:

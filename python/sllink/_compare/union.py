@@ -34,7 +34,6 @@ class Union:
             self._failed(error)
 
     def write(self, some: Iterable[bytes]) -> None:
-        """Writes lines."""
         for line in some:
             self.packets += 1
             try:

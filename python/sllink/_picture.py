@@ -1,10 +1,11 @@
 """Draws what a survey has of a recording: its virtual channels over the octets of the recording, one row each."""
 
+from collections import defaultdict
 from typing import Dict, List, NamedTuple, Sequence, Set, Tuple
 from xml.sax.saxutils import escape, quoteattr
 
 from ._check_words import CELLED, MARKS
-from ._survey import ABOUT, BINS, FLAGS, MARKED, NOT_READ, Cell, Mark, Survey
+from ._survey import ABOUT, BINS, FLAGS, MARKED, NOT_READ, Mark, Survey
 
 WIDTH, LEFT, MARGIN, ENDS = 1100, 120, 24, 104            # of the picture, the labels, the right margin, the rows' ends
 CELL, MARK, BAR, SPACE = 26, 14, 6, 16                    # heights: of a cell, a mark, a bar, between rows
@@ -159,33 +160,28 @@ class Picture:
 
     def _short_cells(self, row: int, y: int) -> List[str]:
         """A cell for each frame of a row."""
-        cells = self.survey.cells
-        ends = [*(cell.start for cell in cells[1:]), self.survey.size]
-        return [self._short_cell(cell, end, y) for cell, end in zip(cells, ends)
-                if cell.row == row and cell.what != "rest"]
-
-    def _short_cell(self, cell: Cell, end: int, y: int) -> str:
-        x = self.x(cell.start)
-        wide = max(self.x(end) - x, 1)
-        if cell.what == "skip":
-            wide = max(wide, THINNEST)
-        words = ""
-        if width(cell.words, 9) + 1 < wide:
-            kind = "on-dark" if cell.what in DARK else "on-light"
-            words = text(x + wide / 2, y + 17, cell.words, anchor="middle", size=9, kind=kind)
-        return (f"<g><title>{escape(cell.line)}</title>"
-                f"{box(x, y, wide - (1 if wide > 4 else 0), CELL, 'c-' + cell.what)}{words}</g>")
+        parts, cells = [], self.survey.cells
+        for cell, end in zip(cells, [*(cell.start for cell in cells[1:]), self.survey.size]):
+            if cell.row != row or cell.what == "rest":
+                continue
+            x, words = self.x(cell.start), ""
+            wide = max(self.x(end) - x, THINNEST if cell.what == "skip" else 1)
+            if width(cell.words, 9) + 1 < wide:
+                kind = "on-dark" if cell.what in DARK else "on-light"
+                words = text(x + wide / 2, y + 17, cell.words, anchor="middle", size=9, kind=kind)
+            parts.append(f"<g><title>{escape(cell.line)}</title>"
+                         f"{box(x, y, wide - (1 if wide > 4 else 0), CELL, 'c-' + cell.what)}{words}</g>")
+        return parts
 
     def _long_cells(self, row: int, y: int) -> List[str]:
         """Cells of several frames. The fullest cell of the row has the whole height."""
         kinds = {what: numbers for (of, what), numbers in self.survey.bins.items() if of == row}
         joined = stretches_for(sum(sum(numbers) for numbers in kinds.values())) * self.coarse
-        cells: Dict[int, Dict[str, int]] = {}
+        cells: Dict[int, Dict[str, int]] = defaultdict(lambda: defaultdict(int))
         for what in (what for what in CELLS if what in kinds):
             for stretch, number in enumerate(kinds[what]):
                 if number:
-                    cell = cells.setdefault(stretch // joined, {})
-                    cell[what] = cell.get(what, 0) + number
+                    cells[stretch // joined][what] += number
         most = max((sum(cell.values()) for cell in cells.values()), default=1)
         return [self._long_cell(row, place * joined, joined, cell, most, y) for place, cell in sorted(cells.items())]
 
@@ -327,14 +323,8 @@ def sums_beside(marks: Sequence[Sign], follow: Sequence[float]) -> List[str]:
 
 def stretches_for(frames: int) -> int:
     """How many stretches a cell of a row has, by the number of its frames. A few frames have a stretch each."""
-    if frames <= FEW:
-        return 1
-    joined = 2
-    while joined < WIDEST and frames < FULL * BINS // joined:
-        joined += 1
-        while BINS % joined:
-            joined += 1
-    return joined
+    widths = [it for it in range(2, WIDEST + 1) if BINS % it == 0]
+    return 1 if frames <= FEW else next((it for it in widths if frames >= FULL * BINS // it), WIDEST)
 
 
 def sign(what: str, mark: Sign, y: float) -> List[str]:

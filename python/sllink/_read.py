@@ -3,11 +3,11 @@
 import errno
 import io
 import os
+from collections import defaultdict
 from contextlib import ExitStack, closing, contextmanager
 from hashlib import sha256
 from itertools import chain, zip_longest
-from typing import (Any, BinaryIO, ContextManager, Dict, Generator, Iterable, Iterator, List, Literal, Optional, Tuple,
-                    Union, overload)
+from typing import Any, BinaryIO, ContextManager, Dict, Generator, Iterator, Literal, Optional, Union, overload
 
 from ._compare.difference import Difference
 from ._compare.store import Packets, room
@@ -129,12 +129,11 @@ def same_packets(kind: str, a: Recording, b: Recording, options: Words, b_option
     thousand frames.
 
     Read with the same options, the normal forms are compared, octet by octet. Where the second one has options of its
-    own, the packets of each channel are compared by their number and the SHA-256 of their octets, since a normal form
-    depends on the options too.
+    own, the packets of each channel are compared by the SHA-256 of their octets, since a normal form depends on the
+    options too.
     """
     if b_options is not None and words_of(b_options) != words_of(options):
-        return _digests(packets(kind, a, options, program=program)) == _digests(
-            packets(kind, b, b_options, program=program))
+        return _digests(kind, a, options, program) == _digests(kind, b, b_options, program)
     if isinstance(program, Library):
         return program.same_packets(kind, a, b, options)
     with form_of(kind, a, options, program) as one, form_of(kind, b, options, program) as other:
@@ -162,12 +161,10 @@ def difference(kind: str, a: Recording, b: Recording, options: Words, b_options:
         raise OSError(str(reason)) from None
 
 
-def _digests(some: Iterable[Packet]) -> Dict[Tuple[int, Optional[int]], Tuple[int, bytes]]:
-    """Of each channel how many packets it has, and a digest of them. A packet states its length, so what they are
-    divided into follows from their octets."""
-    found: Dict[Tuple[int, Optional[int]], List[Any]] = {}
-    for packet in some:
-        it = found.setdefault((packet.vc, packet.map), [0, sha256()])
-        it[0] += 1
-        it[1].update(packet.octets)
-    return {channel: (number, digest.digest()) for channel, (number, digest) in found.items()}
+def _digests(kind: str, recording: Recording, options: Words, program: Program) -> Dict[bytes, bytes]:
+    """Of each channel a digest of its packets, each with its line feed."""
+    found: Dict[bytes, Any] = defaultdict(sha256)
+    with packet_lines(kind, recording, options, program) as listing:
+        for line in listing:
+            found[line.partition(b" apid ")[0]].update(line.rpartition(b" ")[2])
+    return {channel: digest.digest() for channel, digest in found.items()}

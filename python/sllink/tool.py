@@ -216,14 +216,9 @@ def _status(name: str, main: Callable[[List[str]], int], text: str) -> int:
 
 def _streams(name: str) -> None:
     """Streams that are closed: without a standard output there is nothing to do, the others are /dev/null."""
-    for number in (0, 2):
-        try:
-            os.fstat(number)
-        except OSError:
-            os.dup2(os.open(os.devnull, os.O_RDWR), number)
     # pylint: disable=consider-using-with
-    sys.stdin = sys.stdin or open(0, closefd=False)
-    sys.stderr = sys.stderr or open(2, "w", closefd=False)
+    sys.stdin = sys.stdin or open(os.devnull)                # as the descriptor that is free
+    sys.stderr = sys.stderr or open(os.devnull, "w")
     if sys.stdout is None:
         complain(name, f"output: {os.strerror(errno.EBADF)}")
         sys.exit(2)

@@ -331,14 +331,9 @@ class Recordings(Way):
         reader, writer = os.pipe()
         os.set_blocking(reader, False)
 
-        def send():
-            for part in parts:
-                time.sleep(0.1)
-                os.write(writer, part)
-            os.close(writer)
-        sending = threading.Thread(target=send)
-        sending.start()
-        self.addCleanup(sending.join)
+        steps = [*((os.write, (writer, part)) for part in parts), (os.close, (writer,))]
+        for number, (does, words) in enumerate(steps, 1):
+            threading.Timer(number / 10, does, words).start()
         return reader
 
     def test_what_is_a_recording(self):

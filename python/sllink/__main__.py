@@ -16,12 +16,11 @@ from . import counts, packets
 from .tool import Refused, about, complain, reason_of, require_name, run, shown
 
 NAME = "python3 -m sllink"
-USAGE = f"usage: {NAME} tm|tc RECORDING --scid N [OPTION..]"
 
 
 def main(words: List[str]) -> int:
     if len(words) < 2 or words[0] not in ("tm", "tc") or words[1].startswith("--"):
-        raise Refused(USAGE)
+        raise Refused(f"usage: {NAME} tm|tc RECORDING --scid N [OPTION..]")
     require_name(words[1])
     try:
         with about(words[1]):

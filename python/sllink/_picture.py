@@ -66,9 +66,6 @@ class Sign(NamedTuple):
     about: str = ""
     lost: int = 0
 
-    def scale(self) -> float:
-        return min(0.7 + 0.13 * self.lost.bit_length(), 1.6) if self.lost else 1
-
 
 class Picture:
     """A picture of a survey. Pictures on one page want an `ident` each, and `heading` False where the page has heading
@@ -329,7 +326,7 @@ def stretches_for(frames: int) -> int:
 
 def sign(what: str, mark: Sign, y: float) -> List[str]:
     """A mark, and its words beside it."""
-    scale = f" scale({mark.scale():.2f})" if mark.scale() != 1 else ""
+    scale = f" scale({min(0.7 + 0.13 * mark.lost.bit_length(), 1.6):.2f})" if mark.lost else ""
     path = f'<path class="m-{what}" d="{MARKS[what].path}" transform="translate({mark.x:.1f} {y:.1f}){scale}"/>'
     parts = [f"<g><title>{escape(mark.about)}</title>{path}</g>" if mark.about else path]
     if mark.words:

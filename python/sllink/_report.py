@@ -67,7 +67,10 @@ def report_of_two(kind: str, paths: Sequence[str], options: Sequence[Sequence[st
         lacks = Lacks(here, there, folder)
     for it in one, other:
         it.surveyed(max(one.state.size, other.state.size))    # the pictures have one scale
-    name_apart(one, other, paths)
+    if one.name == other.name:                            # they get their paths as names, or else their places
+        one.name, other.name = map(shown, paths)
+    if one.name == other.name:
+        one.name, other.name = f"{one.name} (first)", f"{other.name} (second)"
     asked = [f"{it.name}: {question}" for it in (one, other) for question in it.asked]
     alike = options[0] == options[1]
     parts = ["<header>", heading(1, f"{one.name} and {other.name}"), read_as(one) if alike else "", "</header>",
@@ -80,14 +83,6 @@ def report_of_two(kind: str, paths: Sequence[str], options: Sequence[Sequence[st
     for it in one, other:
         parts += [heading(2, it.name), facts(facts_of(it)), *tables(it, 3)]
     return page(f"{one.name} and {other.name}", filter(None, parts))
-
-
-def name_apart(one: Recording, other: Recording, paths: Sequence[str]) -> None:
-    """Gives two recordings of the same name their paths, or their places, as names."""
-    if one.name == other.name:
-        one.name, other.name = map(shown, paths)
-    if one.name == other.name:
-        one.name, other.name = f"{one.name} (first)", f"{other.name} (second)"
 
 
 def read_as(it: Recording) -> str:

@@ -183,11 +183,9 @@ class Records:
         missing = number * SIZE - (len(self.buffer) - self.at)
         if missing > 0:
             some = [self.buffer[self.at:]]
-            for piece in self._left:
-                some.append(piece)
-                missing -= len(piece)
-                if missing <= 0:
-                    break
+            while missing > 0:
+                some.append(next(self._left))
+                missing -= len(some[-1])
             self.buffer, self.at = b"".join(some), 0
         return number
 

@@ -8,6 +8,7 @@ import collections
 import os
 import re
 from collections import defaultdict
+from functools import lru_cache
 from typing import Counter, Dict, Iterator, List, NamedTuple, Optional, Sequence, Tuple
 
 from ._check_words import CELLED
@@ -79,22 +80,6 @@ class Command(NamedTuple):
         return Command(int(words[1]), what, words[3], words[-1], int(words[-1], 16) & FLAGGED)
 
 
-class Commands(Dict[bytes, Tuple[Command, List[int]]]):
-    """TC frames by their lines without offsets, of which the same ones come often: each with the numbers of frames of
-    its row and class."""
-
-    def __init__(self, bins: Dict[Tuple[int, str], List[int]]) -> None:
-        super().__init__()
-        self._bins = bins
-
-    def __missing__(self, line: bytes) -> Tuple[Command, List[int]]:
-        if len(self) == MOST_KNOWN:
-            self.clear()
-        command = Command.of(line.decode())
-        self[line] = it = command, self._bins[command.row, command.what]
-        return it
-
-
 class Mark:
     """Anomalies of one kind in one stretch of a channel: how many, the frames lost in them, the first lines."""
 
@@ -161,7 +146,7 @@ class Survey:
         self._locked: Dict[int, Lockout] = {}             # those that are kept and haven't ended, by channel
         self._flags: Dict[int, int] = {}                  # those of FARM-1 that are set, by channel
         self._until = 0                                   # the offset up to which `bars` are
-        self._commands = Commands(self.bins)
+        self._known = lru_cache(MOST_KNOWN)(self._command)    # the same lines come often
         self._show()
         self.is_short = sum(cell.what != "rest" for cell in self.cells) * self.span <= MOST_CELLS * self.size
         if self.is_short:
@@ -184,15 +169,11 @@ class Survey:
         return {row: sum(mark.lost for mark in marks.values()) for (row, what), marks in self.marks.items()
                 if what == "gap"}
 
-    def place(self, offset: int, stretches: int) -> int:
-        """The stretch in which an offset lies, where the picture is divided into this number."""
-        return min(offset * stretches // self.span, stretches - 1)
-
     def _divided(self, block: bytes, stretches: int) -> Iterator[Tuple[int, bytes]]:
         """The lines of a block by the stretch in which their offsets lie. Offsets don't fall."""
         start = 0
         while start < len(block):
-            stretch = self.place(offset_at(block, start), stretches)
+            stretch = min(offset_at(block, start) * stretches // self.span, stretches - 1)
             end = len(block)
             if stretch < stretches - 1:
                 end = line_from(block, start, -(-(stretch + 1) * self.span // stretches))
@@ -262,14 +243,14 @@ class Survey:
 
     def _add_tc(self, stretch: int, piece: bytes) -> None:
         """Adds lines of `show tc` that lie in one stretch."""
-        known, now, found = self._commands, self._flags, SHOWN_TC.findall(piece)
+        known, now, found = self._known, self._flags, SHOWN_TC.findall(piece)
         start, end = (min(at * self.span // BINS, self.size) for at in (stretch, stretch + 1))
         self._raise(now, self._until, start)
         seen: Dict[int, int] = {}                         # flags that are set somewhere in it, by channel
         refused: List[Tuple[int, int]] = []
         changes = False                                   # of lockouts that are kept
         for line, times in collections.Counter(found).items():
-            it, numbers = known[line]
+            it, numbers = known(line)
             numbers[stretch] += times
             seen[it.row] = seen.get(it.row, 0) | it.flags
             if it.what == "outside":
@@ -280,17 +261,22 @@ class Survey:
         self._raise({**now, **seen}, start, end)
         self._until = end
         if changes:
-            self._follow([known[line][0] for line in found], piece)
+            self._follow([known(line)[0] for line in found], piece)
         else:
             for row, times in refused:
                 self._locked[row].refused += times
         for line in reversed(found):
-            it, _ = known[line]
+            it, _ = known(line)
             if it.row in seen:
                 del seen[it.row]
                 self.farms[it.row], now[it.row] = it.digits, it.flags
                 if not seen:
                     break
+
+    def _command(self, line: bytes) -> Tuple[Command, List[int]]:
+        """A TC frame by its line without the offset, and the numbers of frames of its row and class."""
+        command = Command.of(line.decode())
+        return command, self.bins[command.row, command.what]
 
     def _follow(self, commands: Sequence[Command], piece: bytes) -> None:
         """Follows the lockouts that are kept, frame by frame."""

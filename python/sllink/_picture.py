@@ -137,8 +137,8 @@ class Picture:
         if row == NOT_READ:
             name = ", ".join(["skipped"] * (frames > 0) + ["rest"] * (self.survey.rest is not None))
         below = f"{frames:,} {'frame' if frames == 1 else 'frames'}" if frames else ""
-        parts = [text(LEFT - 10, y + (11 if below else 17), name, anchor="end", weight="bold")]
-        return parts + ([text(LEFT - 10, y + 23, below, anchor="end", size=10, kind="soft")] if below else [])
+        return [text(LEFT - 10, y + (11 if below else 17), name, anchor="end", weight="bold"),
+                *[text(LEFT - 10, y + 23, below, anchor="end", size=10, kind="soft")] * bool(below)]
 
     def _end(self, row: int, y: int) -> List[str]:
         """What stands at the end of a row: the sum of the lost frames, and what is incomplete."""

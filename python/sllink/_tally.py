@@ -26,13 +26,6 @@ class Count:
         self.packets = self.octets = self.jumps = self.missing = 0
         self.first, self.last = first, first - 1
 
-    def jump(self, number: int) -> None:
-        """A count that isn't the one that comes next."""
-        self.jumps += 1
-        ahead = (number - self.last - 1) % COUNTS
-        if ahead < COUNTS // 2:
-            self.missing += ahead
-
 
 class Tally:
     """The packets of a recording. With `kept` they are kept there, to be compared with those of another one."""
@@ -87,8 +80,10 @@ class Tally:
                 count, apid, some = it
                 count.packets += 1
                 count.octets += int(octets)
-                if number != (count.last + 1) & 16383:
-                    count.jump(number)
+                ahead = (number - count.last - 1) % COUNTS
+                if ahead:
+                    count.jumps += 1
+                    count.missing += ahead if ahead < COUNTS // 2 else 0
                 count.last = number
                 if kept is not None:
                     some.append(pack(blake2b(packet, digest_size=16).digest(), apid, number))

@@ -330,7 +330,6 @@ class Recordings(Way):
         """A descriptor that doesn't block, on which these parts come, each a tenth of a second later."""
         reader, writer = os.pipe()
         os.set_blocking(reader, False)
-
         steps = [*((os.write, (writer, part)) for part in parts), (os.close, (writer,))]
         for number, (does, words) in enumerate(steps, 1):
             threading.Timer(number / 10, does, words).start()
@@ -399,18 +398,14 @@ class Ends(InAFolder):
             self.refused(2, "--spare", sllink.frames, "tm", recording, ["--spare"])
             os.close(writer)
 
-    def test_no_program(self):
-        for name in self.folder / "none", self.folder, PASS, "no-such-program", self.folder / "x" / "y":
-            with self.subTest(name=name):
-                self.refused(127, re.escape(str(name)), sllink.packets, "tm", PASS, STATION, program=name)
-
     def test_another_program(self):
-        """One that doesn't answer to --version as sllink does is refused before it sees a recording."""
+        """None, or one that doesn't answer to --version as sllink does, is refused before it sees a recording."""
+        none = self.folder / "none", self.folder, PASS, "no-such-program", self.folder / "x" / "y"
         others = [shutil.which(name) for name in ("false", "true", "yes", "echo", "cat")]
         scripts = "exec yes", "echo sllink", "echo sllink 1.0.0; exit 1", "echo sllink 1.0.0 of another kind"
         others += [self.program(script, "", str(number)) for number, script in enumerate(scripts)]
-        for name in others:
-            said = re.escape(f"{name}: isn't sllink, by its answer to --version")
+        for name in (*none, *others):
+            said = re.escape(f"{name}: " + ("isn't sllink, by its answer to --version" if name in others else ""))
             for read in READERS:
                 with self.subTest(name=name, read=read):
                     self.refused(127, said, read, "tm", FIRST, STATION, program=name)
@@ -512,17 +507,12 @@ class NormalForms(Way):
     """Normal forms, written and compared."""
 
     def test_written(self):
-        for kind, path, options in RECORDINGS:
+        for kind, path, options in [*RECORDINGS, ("tm", os.devnull, STATION)]:
             outputs = self.folder / "a", str(self.folder / "b"), os.fsencode(self.folder / "c"), io.BytesIO()
             for output in outputs:
                 self.assertIsNone(sllink.normal_form(kind, path, output, options, program=self.by))
             found = [outputs[3].getvalue(), *((self.folder / name).read_bytes() for name in "abc")]
             self.assertEqual(found, 4 * [written("normalise", kind, path, options)])
-
-    def test_empty(self):
-        output = self.file("a", b"as it was")
-        sllink.normal_form("tm", os.devnull, output, STATION, program=self.by)
-        self.assertEqual(output.read_bytes(), b"")
 
     def test_refused(self):
         few = sllink.Options(1, limit=10)

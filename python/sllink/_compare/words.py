@@ -69,7 +69,6 @@ from .._check_words import CHECK_WORDS
 from .._questions import QUESTIONS
 from ..tool import Refused, State, divided, own_options, require_name, shown
 
-HELP = __doc__
 NAME = "sllink-compare"
 USAGE = f"usage: {NAME} tm|tc A B --scid N [OPTION..]; --help says more"
 ALLOWED = [*CHECK_WORDS, *QUESTIONS]

@@ -27,11 +27,11 @@ class Library:
         same = sllink.same_packets("tm", "one.tm", "other.tm", options, program=library)
 
     The answers are those of the program, but whole: a recording is read to its end before the first line comes, and
-    nothing comes before a fault. Recording and listing are in memory. Options are an Options. Several threads may use one
-    Library at the same time.
+    nothing comes before a fault. Recording and listing are in memory. Options are an Options. Several threads may use
+    one Library at the same time.
 
-    The library is the one of the path, else $SLLINK_LIBRARY, else the one that is installed with this module or built in
-    its repository. OSError: it isn't there, or is no library.
+    The library is the one of the path, else $SLLINK_LIBRARY, else the one that is installed with this module or built
+    in its repository. OSError: it isn't there, or is no library.
     """
 
     def __init__(self, path: Optional[Union[str, "os.PathLike[str]"]] = None) -> None:

@@ -217,8 +217,6 @@ def run_line(side: str, channel: str, apid: int, first: int, last: int, packets:
     return f"{side} {channel} apid {apid} counts {counts} packets {packets}"
 
 
-# From the words of a line.
-
 def frame_of(kind: str, line: str) -> Union[TmFrame, TcFrame, Skip, Remainder]:
     """A line of `show`."""
     words = line.split()

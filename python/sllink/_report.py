@@ -26,8 +26,7 @@ MOST_CLCWS = 12                                           # pairs of channels th
 
 
 class Recording:
-    """All that a page has of a recording, and the name that it goes by on the page. With `kept` its packets are kept
-    there."""
+    """All that a page has of a recording, and its name on the page. With `kept` its packets are kept there."""
 
     def __init__(self, kind: str, path: str, options: Sequence[str], kept: Optional[Packets] = None) -> None:
         self.words, self.state = (kind, path, options), State(path)
@@ -35,8 +34,8 @@ class Recording:
             self.tally = Tally(kind, path, options, kept)
 
     def surveyed(self, span: int = 0) -> "Recording":
-        """With what is counted of its frames; `span` are the octets of its picture, where it has fewer. It comes last, as
-        it may take as much memory as a comparison before it."""
+        """With what is counted of its frames; `span` are the octets of its picture, where it has fewer. It comes last,
+        as it may take as much memory as a comparison before it."""
         kind, path, options = self.words
         with about(path):
             self.survey = Survey(kind, path, options, span, self.state)

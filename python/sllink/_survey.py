@@ -38,8 +38,7 @@ MOST_KNOWN = 1 << 14                                      # lines of `show tc` t
 
 
 class Cell(NamedTuple):
-    """A frame of a short recording, and the flags of FARM-1 that are set after it; or what is left after the last
-    one."""
+    """A frame of a short recording, and the flags of FARM-1 after it; or what is left after the last one."""
 
     row: int
     what: str
@@ -109,11 +108,6 @@ class Reports:
     def __init__(self, word: int) -> None:
         self.number, self.first, self.last = 0, word, word
         self.flags: Dict[int, int] = defaultdict(int)     # by the flags that are set
-
-    def add(self, word: int, times: int) -> None:
-        """CLCWs that are the same."""
-        self.number += times
-        self.flags[word & 0xF800] += times
 
     def having(self, flag: str) -> int:
         """How many have this flag set."""
@@ -236,7 +230,9 @@ class Survey:
         for (row, digits), times in collections.Counter(words).items():
             word = int(digits, 16)
             key = int(row), word >> 18 & 63
-            (self.reports.get(key) or self.reports.setdefault(key, Reports(word))).add(word, times)
+            it = self.reports.get(key) or self.reports.setdefault(key, Reports(word))
+            it.number += times
+            it.flags[word & 0xF800] += times
         for row, digits in reversed([*dict.fromkeys(reversed(words))]):    # in the order of their last ones
             word = int(digits, 16)
             self.reports[int(row), word >> 18 & 63].last = word

@@ -98,8 +98,7 @@ class Tally:
 
 
 class Missing:
-    """The packets that one recording has and another lacks, and the first runs of these, of how many. Those that both
-    have in another order are among them."""
+    """The packets that another recording lacks, or has in another order, and the first runs of these, of how many."""
 
     def __init__(self) -> None:
         self.packets = self.number = 0

@@ -28,8 +28,8 @@ class Refused(Exception):
 
 
 def require_file(path: Union[str, bytes], why: str = "is no file that can be read more than once") -> None:
-    """Refuses what can't be read; for this reason what is no file, as a pipe; and files of the system, which have octets
-    and no size: some of them never end."""
+    """Refuses what can't be read; for this reason what is no file, as a pipe; and files of the system, which have
+    octets and no size: some of them never end."""
     try:
         mode, size = os.stat(path).st_mode, os.stat(path).st_size
     except (OSError, ValueError) as error:
@@ -89,8 +89,7 @@ def about(recording: str) -> Iterator[None]:
 
 
 def identified(recording: str) -> str:
-    """What the sllink-identify that lies beside this tool says of a recording, in some words; nothing where it can't
-    be asked."""
+    """What the sllink-identify beside this tool says of a recording, in some words; nothing where it can't be asked."""
     what, *lines = _identify(recording) or ["", ""]
     if lines[-1].startswith("sllink check "):
         what += f", read with {lines[-1][13:].partition(' < ')[0]}"
@@ -99,8 +98,7 @@ def identified(recording: str) -> str:
 
 
 def command_of(recording: str) -> str:
-    """The command line that sllink-identify has for a recording, of several the first one; nothing where it has none or
-    can't be asked."""
+    """The command line that sllink-identify has for a recording, of several the first; nothing where it has none."""
     *lines, last = _identify(recording)[1:] or [""]
     if last.startswith("can't say: "):
         return ""
@@ -120,8 +118,7 @@ def _identify(recording: str) -> List[str]:
 
 
 def divided(words: List[str], valued: Dict[str, str]) -> Tuple[List[str], Dict[str, List[str]]]:
-    """The words without the options of a tool that have a value, and the values of each of these. `valued` has what each
-    of them wants."""
+    """The words without a tool's options that have a value, and the values of these; `valued` has what each wants."""
     # not by argparse, which refuses `--a-options --tm-fecf`, as a value begins with a dash there
     others: List[str] = []
     own: Dict[str, List[str]] = {name: [] for name in valued}

@@ -202,12 +202,14 @@ class Listings(Way):
             self.assertFalse(hasattr(it, "__dict__"))
 
     def test_names(self):
-        """What is public prints with its public name, and is pickled by it."""
+        """What is public prints with its public name, and is pickled by it; names in lines are printable text."""
         for name in sllink.__all__:
             it = getattr(sllink, name)
             if isinstance(it, type):
                 self.assertEqual(repr(it), f"<class 'sllink.{name}'>")
-        self.assertEqual(str(sllink.SllinkError(127, "a\x1b[1m\nb: isn't sllink")), "a\\x1b[1m\\nb: isn't sllink")
+        for name, shown in (("pass.tm", "pass.tm"), ("two\nlines\t\x1b[1m", "two\\nlines\\t\\x1b[1m"),
+                            (b"\xff.tm", "\\xff.tm"), ("Überflug.tm", "Überflug.tm"), ("", "''")):
+            self.assertEqual((tool.shown(name), str(sllink.SllinkError(127, name))), (shown, shown))
         error = sllink.SllinkError(2, "why")
         self.assertEqual(traceback.format_exception_only(type(error), error), ["sllink.SllinkError: why\n"])
         self.assertEqual(pickle.loads(pickle.dumps(error)).args, (2, "why"))
@@ -481,8 +483,7 @@ class Ends(InAFolder):
         """It doesn't grow with the listing."""
         program = self.program("exec yes '0 skip fecf'")
         frames = sllink.frames("tm", PASS, STATION, program=program)
-        for _ in range(1000):
-            next(frames)
+        list(itertools.islice(frames, 1000))
         tracemalloc.start()
         for _ in range(50000):
             next(frames)
@@ -656,15 +657,6 @@ class Differences(Way):
         with unittest.mock.patch.object(tempfile, "tempdir", str(self.folder / "none")):
             with self.assertRaisesRegex(OSError, "TMPDIR"):
                 self.found(FIRST, os.devnull, STATION)
-
-
-class Tools(unittest.TestCase):
-    """What the tools share."""
-
-    def test_shown(self):
-        for name, shown in (("pass.tm", "pass.tm"), ("two\nlines\t\x1b[1m", "two\\nlines\\t\\x1b[1m"),
-                            (b"\xff.tm", "\\xff.tm"), ("Überflug.tm", "Überflug.tm"), ("", "''")):
-            self.assertEqual(tool.shown(name), shown)
 
 
 if __name__ == "__main__":

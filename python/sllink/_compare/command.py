@@ -72,11 +72,8 @@ def require_none(doubts: List[str]) -> None:
                       "are the options right?")
 
 
-# Normal forms.
-
 def digest_of(it: Checked) -> Tuple[bytes, int]:
-    """The digest of the normal form of a recording, and how many octets it has. MemoryError: memory is short, also if
-    the system then ends the program."""
+    """The digest of a normal form, and its size. MemoryError: memory is short, also if the system ends the program."""
     digest, size = blake2b(), 0
     with about(it.recording):
         try:
@@ -109,8 +106,6 @@ def same_forms(words: Words, checked: List[Checked]) -> Optional[bool]:
         digests.append(digest)
     return digests[0] == digests[1]
 
-
-# The lines of packets.
 
 def by_lines(words: Words, checked: List[Checked], doubts: List[str]) -> bool:
     """Whether the packets are the same, by their lines. Prints which aren't, and writes the union."""

@@ -18,8 +18,7 @@ Key = Tuple[int, int, int]                                # virtual channel, MAP
 
 
 class Hunk(NamedTuple):
-    """What two recordings have at one place of a channel: a number of packets that both have, or those that only one
-    has there."""
+    """What two recordings have at a place of a channel: how many packets both have, or those that only one has."""
 
     both: int
     only: Tuple[Only, Only]

@@ -69,8 +69,7 @@ def fitting() -> Iterator[None]:
 
 
 class Files:
-    """Octets by names, all in one file: what is added to a name is read from the front on. There may be thousands of
-    names, with few octets each."""
+    """Octets by names, which may be thousands, in one file: what is added to a name is read from the front on."""
 
     def __init__(self, path: str) -> None:
         with fitting():

@@ -4,7 +4,6 @@ Of a long recording no line is kept but the first ones of `check`, so a survey t
 short one.
 """
 
-import collections
 import os
 import re
 from collections import defaultdict
@@ -125,8 +124,8 @@ class Survey:
         self.size = self.state.size
         self.span = max(span, self.size, 1)               # a recording that grows may be empty at first
         self.frames = self.skipped = self.packets = self.idle = 0
-        self.anomalies: Counter[str] = collections.Counter()        # lines of `check` by their words
-        self.reasons: Counter[str] = collections.Counter()          # skipped frames by the reason
+        self.anomalies: Counter[str] = Counter()        # lines of `check` by their words
+        self.reasons: Counter[str] = Counter()          # skipped frames by the reason
         self.first_lines: List[str] = []
         self.marks: Dict[Tuple[int, str], Dict[int, Mark]] = defaultdict(dict)
         self.of_255 = 0                                   # gaps of 255 frames
@@ -189,7 +188,7 @@ class Survey:
         """Adds lines of `check` that lie in one stretch."""
         found = CHECKED.findall(piece)
         wanted: Dict[bytes, Mark] = {}
-        for key, times in collections.Counter(found).items():
+        for key, times in Counter(found).items():
             what, *_, of = key.decode().split()
             self.anomalies[what] += times
             if what == "skip":
@@ -205,7 +204,7 @@ class Survey:
         if wanted:
             keep_lines(wanted, found, piece)
         gaps = GAP.findall(piece) if b" gap " in piece else []
-        for (channel, expected, count), times in collections.Counter(gaps).items():
+        for (channel, expected, count), times in Counter(gaps).items():
             row, lost = int(channel[3:]), (int(count) - int(expected)) % 256
             self.marks[row, "gap"][spot].lost += lost * times
             self.of_255 += (lost == 255) * times
@@ -224,10 +223,10 @@ class Survey:
 
     def _add_tm(self, stretch: int, piece: bytes) -> None:
         """Adds lines of `show tm` that lie in one stretch."""
-        for (row, what), times in collections.Counter(SHOWN_TM.findall(piece)).items():
+        for (row, what), times in Counter(SHOWN_TM.findall(piece)).items():
             self.bins[int(row), what.decode()][stretch] += times
         words = CLCW.findall(piece) if b" clcw " in piece else []
-        for (row, digits), times in collections.Counter(words).items():
+        for (row, digits), times in Counter(words).items():
             word = int(digits, 16)
             key = int(row), word >> 18 & 63
             it = self.reports.get(key) or self.reports.setdefault(key, Reports(word))
@@ -245,7 +244,7 @@ class Survey:
         seen: Dict[int, int] = {}                         # flags that are set somewhere in it, by channel
         refused: List[Tuple[int, int]] = []
         changes = False                                   # of lockouts that are kept
-        for line, times in collections.Counter(found).items():
+        for line, times in Counter(found).items():
             it, numbers = known(line)
             numbers[stretch] += times
             seen[it.row] = seen.get(it.row, 0) | it.flags

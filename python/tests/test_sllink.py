@@ -55,11 +55,10 @@ RECORDINGS = [
 ]
 ASKING = "-h", "-hh", "--help", "-V", "--version"           # words by which the program reads no recording
 # Values that no option takes; and of each option values at the edges that the program takes, and such as it refuses.
-WRONG = ("--scid=0x2A7 --scid=1024 --scid=70000 --tm-length=31 --tm-length=70000 --tc-length=15 --window=3 --vr=256 "
-         "--vr-of=5:57,0:3 --vr-of=5=57 --plain=5-7 --limit=1G --limit=0").split()
+WRONG = "--scid=0x2A7 --scid=70000 --tm-length=70000 --vr-of=5:57,0:3 --vr-of=5=57 --plain=5-7 --limit=1G".split()
 EDGES = {
     "scid": ([0, 1023], [-1, 1024]), "tm_length": ([32, 2048], [31, 2049]), "tc_length": ([16, 1024], [15, 1025]),
-    "window": ([2, 254], [0, 9, 256]), "vr": ([0, 255], [-1, 256]), "limit": ([1, (1 << 64) - 1], [0, 1 << 64]),
+    "window": ([2, 254], [0, 3, 256]), "vr": ([0, 255], [-1, 256]), "limit": ([1, (1 << 64) - 1], [0, 1 << 64]),
     "plain": ([[0, 63]], [[64]]), "vr_of": ([{0: 255, 63: 0}], [{64: 0}, {0: 256}]),
 }
 
@@ -306,8 +305,9 @@ class TheOptions(InAFolder):
                 words = [word] if name == "scid" else ["--scid=1", word]
                 for read in (lambda: sllink.Options(**{"scid": 1, name: value}),
                              lambda: list(sllink.packets("tc", io.BytesIO(), words))):
-                    with self.subTest(word=word), (
-                            self.assertRaises(sllink.SllinkError) if value in refused else contextlib.nullcontext()):
+                    said = f"; (--)?{name.replace('_', '[-_]')} takes .*[0-9]"
+                    with self.subTest(word=word), (self.assertRaisesRegex(sllink.SllinkError, said)
+                                                   if value in refused else contextlib.nullcontext()):
                         read()
         options = sllink.Options(1, vr_of={5: 57})
         options.vr_of[64] = 0
@@ -463,18 +463,16 @@ class Ends(InAFolder):
     def test_left_early(self):
         """By close(), at the end of a with, and out of a loop."""
         def started(read, recording=PASS, line="0 skip fecf"):
-            program = self.program(f"echo $$ > {self.folder}/numbers; exec yes '{line}'")
+            program = self.program(f"echo $$ >> {self.folder}/numbers; exec yes '{line}'")
             return read("tm", recording, STATION, program=program)
 
         for recording in PASS, io.BytesIO(bytes(10000000)):
             frames = started(sllink.frames, recording)
             next(frames)
-            os.kill(int((self.folder / "numbers").read_text()), 0)
+            os.kill(int((self.folder / "numbers").read_text().split()[-1]), 0)
             frames.close()
-            self.gone()
         with started(sllink.anomalies) as anomalies:
             next(anomalies)
-        self.gone()
         for _ in started(sllink.packets, line="vc 0 apid 1 type 0 secondary 0 flags 3 count 0 octets 7 00010203040506"):
             break
         self.gone()

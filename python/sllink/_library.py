@@ -101,12 +101,11 @@ def next_of(source: Any, *size: int) -> bytes:
             octets = source.read(*size)
             if octets is not None:
                 return octets or b""
-            try:
-                descriptor = source.fileno()
-            except (AttributeError, OSError):
-                raise BlockingIOError(errno.EAGAIN, "has nothing yet, and no descriptor to wait for") from None
             waiting = select.poll()
-            waiting.register(descriptor, select.POLLIN)
+            try:
+                waiting.register(source, select.POLLIN)
+            except (TypeError, OSError):
+                raise BlockingIOError(errno.EAGAIN, "has nothing yet, and no descriptor to wait for") from None
             waiting.poll()
     except StopIteration as fault:                           # which iter() would take for the end
         raise RuntimeError("read() raised StopIteration") from fault

@@ -9,10 +9,9 @@ import threading
 from typing import Any, BinaryIO, Callable, Generator, Iterable, Iterator, List, Optional, Set, Tuple, Union
 
 from ._fault import SllinkError, explained
-from ._library import Library, Recording, next_of, require_open
+from ._library import HERE, Library, Recording, next_of, require_open
 from ._options import ASKS, Words, words_of
 
-HERE = os.path.dirname(os.path.realpath(__file__))
 BUILT = os.path.normpath(os.path.join(HERE, "../../crates/sllink/out/sllink"))
 INSTALLED = os.path.normpath(os.path.join(HERE, "../../../../bin/sllink"))
 MOST_SAID = 65536                                            # octets that are kept of what the program says

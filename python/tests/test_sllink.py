@@ -339,12 +339,14 @@ class Recordings(Way):
 
     def test_what_is_a_recording(self):
         head, archive = self.file("a", b"head" + self.octets), self.file("a.gz", gzip.compress(self.octets))
-        with open(FIRST, "rb") as file, open(FIRST, "rb") as buffered, open(FIRST, "rb", buffering=0) as raw, \
-                gzip.open(archive, "rb") as packed, open(head, "rb") as begun:
+        fifo = self.folder / "fifo"
+        os.mkfifo(fifo)
+        with subprocess.Popen(["cp", FIRST, fifo]), open(FIRST, "rb") as file, open(FIRST, "rb") as buffered, \
+                open(FIRST, "rb", buffering=0) as raw, gzip.open(archive, "rb") as packed, open(head, "rb") as begun:
             stream = io.BytesIO(b"head" + self.octets)
             for it in begun, stream:
                 self.assertEqual(it.read(4), b"head")
-            for it in (FIRST, str(FIRST), os.fsencode(FIRST), file.fileno(), buffered, raw, packed,
+            for it in (FIRST, str(FIRST), os.fsencode(FIRST), fifo, file.fileno(), buffered, raw, packed,
                        io.BytesIO(self.octets), begun, stream):
                 self.check(it)
 
@@ -362,11 +364,6 @@ class Recordings(Way):
                 with self.subTest(it=it, read=read), self.assertRaises(fault) as raised:
                     whole(read("tm", it, STATION, program=self.by))
                 self.assertEqual([raised.exception.errno for _ in number], number)
-
-    def test_a_fifo(self):
-        os.mkfifo(self.folder / "fifo")
-        with subprocess.Popen(["cp", str(FIRST), str(self.folder / "fifo")]):
-            self.check(self.folder / "fifo")
 
     def test_what_does_not_block(self):
         """It is waited for, also where read() of a file has None, and read1() nothing, while nothing is there."""

@@ -6,7 +6,7 @@ import re
 import shutil
 import subprocess
 import threading
-from typing import Any, BinaryIO, Callable, Generator, Iterable, Iterator, List, Optional, Set, Tuple, Union
+from typing import Any, BinaryIO, Callable, Generator, Iterator, List, Optional, Set, Tuple, Union
 
 from ._fault import SllinkError, explained
 from ._library import HERE, Library, Recording, next_of, require_open
@@ -131,8 +131,13 @@ class Child:
             self._child.kill()
 
     def parts(self) -> Iterator[bytes]:
-        """The output in parts, all but the last one of CHUNK octets, and then the end."""
-        yield from iter(lambda: self.output.read(CHUNK), b"")
+        """The output, and then the end: a normal form in parts, all but the last one of CHUNK octets, or lines."""
+        if self._verb == "normalise":
+            yield from iter(lambda: self.output.read(CHUNK), b"")
+        else:
+            for line in self.output:
+                if line.endswith(b"\n"):                     # else it is cut off, and the status says why
+                    yield line
         self.end()
 
     def end(self, last: bytes = b"") -> None:
@@ -176,14 +181,15 @@ def lines(verb: str, kind: str, recording: Recording, options: Words, *,
 
 
 @contextlib.contextmanager
-def packet_lines(kind: str, recording: Recording, options: Words, program: Program = None) -> Iterator[Iterable[bytes]]:
-    """The lines of `packets`, as octets: they may be long, and there are many."""
+def output_of(verb: str, kind: str, recording: Recording, options: Words,
+              program: Program = None) -> Iterator[Iterator[bytes]]:
+    """A normal form in parts, or the lines of `packets`, of which there are many; of a library all at once."""
     if isinstance(program, Library):
-        yield program.text("packets", kind, recording, options).splitlines(keepends=True)
+        text = program.text(verb, kind, recording, options)
+        yield iter([text] if verb == "normalise" else text.splitlines(keepends=True))
         return
-    with contextlib.closing(Child("packets", kind, recording, options, program)) as child:
-        yield child.output
-        child.end()
+    with contextlib.closing(Child(verb, kind, recording, options, program)) as child:
+        yield child.parts()
 
 
 def blocks(verb: str, kind: str, recording: Recording, options: Words) -> Iterator[bytes]:

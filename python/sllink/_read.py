@@ -4,7 +4,7 @@ import errno
 import io
 import os
 from collections import defaultdict
-from contextlib import ExitStack, closing, contextmanager
+from contextlib import ExitStack, closing
 from hashlib import sha256
 from itertools import chain, zip_longest
 from typing import Any, BinaryIO, ContextManager, Dict, Generator, Iterator, Literal, Optional, Union, overload
@@ -14,7 +14,7 @@ from ._compare.store import Packets, room
 from ._fault import SllinkError
 from ._library import Library, Recording
 from ._options import Words, words_of
-from ._program import Child, Program, lines, packet_lines
+from ._program import Program, lines, output_of
 from ._records import Anomaly, Packet, Remainder, Run, Skip, TcFrame, TmFrame, Totals
 from ._records import anomaly_of, frame_of, packet_of
 from .tool import Refused
@@ -94,22 +94,12 @@ def normal_form(kind: str, recording: Recording, output: Union[str, bytes, "os.P
     program refuses something or stops while it reads, nothing is written, and a file that is there stays as it is."""
     if isinstance(output, int):
         raise TypeError(f"the normal form goes to a path or a binary file object: {output!r}")
-    with form_of(kind, recording, options, program) as form:
+    with output_of("normalise", kind, recording, options, program) as form:
         first = next(form, b"")
         with ExitStack() as opened:
             file: Any = output if hasattr(output, "write") else opened.enter_context(open(output, "wb"))
             for octets in chain([first], form):
                 _write(octets, file)
-
-
-@contextmanager
-def form_of(kind: str, recording: Recording, options: Words, program: Program = None) -> Iterator[Iterator[bytes]]:
-    """The normal form of a recording, in parts; of a library all at once."""
-    if isinstance(program, Library):
-        yield iter([program.text("normalise", kind, recording, options)])
-        return
-    with closing(Child("normalise", kind, recording, options, program)) as child:
-        yield child.parts()
 
 
 def _write(octets: bytes, file: BinaryIO) -> None:
@@ -136,7 +126,8 @@ def same_packets(kind: str, a: Recording, b: Recording, options: Words, b_option
         return _digests(kind, a, options, program) == _digests(kind, b, b_options, program)
     if isinstance(program, Library):
         return program.same_packets(kind, a, b, options)
-    with form_of(kind, a, options, program) as one, form_of(kind, b, options, program) as other:
+    with output_of("normalise", kind, a, options, program) as one, \
+            output_of("normalise", kind, b, options, program) as other:
         return all(here == there for here, there in zip_longest(one, other))
 
 
@@ -154,7 +145,7 @@ def difference(kind: str, a: Recording, b: Recording, options: Words, b_options:
         with room("sllink") as folder:
             sides = [Packets(os.path.join(folder, side)) for side in "ab"]
             for side, recording, of in zip(sides, (a, b), (options, options if b_options is None else b_options)):
-                with packet_lines(kind, recording, of, program) as listing:
+                with output_of("packets", kind, recording, of, program) as listing:
                     side.take(listing, kind)
             yield from Difference(sides, folder).runs()
     except Refused as reason:
@@ -164,7 +155,7 @@ def difference(kind: str, a: Recording, b: Recording, options: Words, b_options:
 def _digests(kind: str, recording: Recording, options: Words, program: Program) -> Dict[bytes, bytes]:
     """Of each channel a digest of its packets, each with its line feed."""
     found: Dict[bytes, Any] = defaultdict(sha256)
-    with packet_lines(kind, recording, options, program) as listing:
+    with output_of("packets", kind, recording, options, program) as listing:
         for line in listing:
             found[line.partition(b" apid ")[0]].update(line.rpartition(b" ")[2])
     return {channel: digest.digest() for channel, digest in found.items()}

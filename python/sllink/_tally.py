@@ -6,8 +6,8 @@ from hashlib import blake2b
 from typing import Counter, Dict, List, Optional, Sequence, Set, Tuple
 
 from ._compare.difference import COUNTS, Difference, Key, Runs
-from ._compare.store import FIELDS, LINE_FEED, MOST_PACKETS, RECORD, Channel, Packets
-from ._program import packet_lines
+from ._compare.store import FIELDS, MOST_PACKETS, RECORD, Channel, Packets
+from ._program import output_of
 from ._records import Run
 from .tool import Refused, shown
 
@@ -58,10 +58,8 @@ class Tally:
         known: Dict[bytes, Tuple[Count, int, List[bytes]]] = {}    # by the first words of a line
         records: Dict[Channel, List[bytes]] = defaultdict(list)
         pack, number_kept = RECORD.pack, 0
-        with packet_lines(self.kind, recording, options) as lines:
+        with output_of("packets", self.kind, recording, options) as lines:
             for line in lines:
-                if line[-1] != LINE_FEED:
-                    break                                 # it is cut off, and the status tells why
                 # vc V [map M] apid A type T secondary S flags F count C octets N DIGITS
                 try:
                     head, tail = line.split(b" count ", 1)

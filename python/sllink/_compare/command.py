@@ -10,9 +10,8 @@ from typing import Iterator, List, Optional, Tuple
 
 from .. import SllinkError, lines
 from .._check_words import CHECK_WORDS
-from .._program import packet_lines
+from .._program import output_of
 from .._questions import doubted, unanswered
-from .._read import form_of
 from ..tool import Refused, about, shown
 from .difference import Difference, Hunk, Runs
 from .store import Packets, room
@@ -77,7 +76,7 @@ def digest_of(it: Checked) -> Tuple[bytes, int]:
     digest, size = blake2b(), 0
     with about(it.recording):
         try:
-            with form_of(it.kind, it.recording, it.options) as parts:
+            with output_of("normalise", it.kind, it.recording, it.options) as parts:
                 for octets in parts:
                     digest.update(octets)
                     size += len(octets)
@@ -164,7 +163,7 @@ def unite(union: Union, hunk: Hunk, lines_of: List[Iterator[bytes]]) -> None:
 def packets_of(words: Words, checked: Checked, side: int, folder: str) -> Packets:
     """The packets of a recording, as many as `check` counts."""
     packets = Packets(os.path.join(folder, "ab"[side]), words.hex or words.union is not None)
-    with about(checked.recording), packet_lines(checked.kind, checked.recording, checked.options) as listing:
+    with about(checked.recording), output_of("packets", checked.kind, checked.recording, checked.options) as listing:
         packets.take(listing, checked.kind)
     words.states[side].require_unchanged()
     if packets.number != checked.packets:

@@ -24,8 +24,6 @@ FIELDS = Struct(">16xHH")                                 # the last two
 SIZE = RECORD.size
 LINK = Struct(">QQ")                                      # before a piece: where the next one begins, its octets
 
-LINE_FEED = 10
-
 Channel = Tuple[int, int]                                 # virtual channel and MAP (-1 for TM)
 Key = Union[bytes, Tuple[bytes, bytes]]                   # the same, as in a line
 
@@ -127,8 +125,6 @@ class Packets:
         known: Dict[Key, Tuple[List[bytes], str]] = {}       # of a channel: records, and the name of its lines
         number, pack, add = 0, RECORD.pack, self.files.add
         for line in listing:
-            if line[-1] != LINE_FEED:
-                break                                        # it is cut off, and the status says why
             parts = line.split(b" ")
             key: Key = parts[1] if at == 3 else (parts[1], parts[3])
             try:

@@ -3,8 +3,7 @@
  * program's output.
  *
  *     library calls              each call that takes no recording
- *     library jobs < JOBS        what each job answers; its text, with no room, one octet too few,
- *                                and enough
+ *     library jobs < JOBS        what each job answers, and its text, with all kinds of room
  *     library memory < JOBS      the same, with each allocation refused in turn
  *     library stack < JOBS       how much stack a call takes
  *
@@ -49,12 +48,10 @@ void *__wrap_realloc(void *block, size_t size) {
 }
 
 /* A block of its own, so that what is read or written beside it is seen. */
-static uint8_t *block_of(const void *octets, size_t length) {
+static uint8_t *block_of(size_t length) {
     uint8_t *block = __real_malloc(length + (length == 0));
     if (block == NULL)
         exit(2);
-    if (octets != NULL)
-        memcpy(block, octets, length);
     return block;
 }
 
@@ -102,7 +99,7 @@ static bool are_kept(const uint8_t *octets, size_t length) {
 /* A call with `room` octets of room, which are all looked at. */
 static answered called(engine *call, const sllink_managed *managed, octets of, size_t room) {
     answered it = nothing_yet;
-    it.text = block_of(NULL, room);
+    it.text = block_of(room);
     memset(it.text, KEPT, room);
     it.answer = call(managed, of.at, of.length, it.text, room, &it.size, &it.totals);
     if (it.answer == SLLINK_DONE || it.answer == SLLINK_ROOM) {
@@ -153,7 +150,7 @@ static octets octets_of(const char *path) {
     octets it = {NULL, 0};
     if (file != NULL && fseek(file, 0, SEEK_END) == 0) {
         it.length = (size_t)ftell(file);
-        it.at = block_of(NULL, it.length);
+        it.at = block_of(it.length);
         rewind(file);
     }
     if (it.at == NULL || fread(it.at, 1, it.length, file) != it.length || fclose(file) != 0) {
@@ -326,7 +323,7 @@ int main(int argc, char **argv) {
         void (*runs)(void);
     } modes[] = {{"calls", other_calls}, {"jobs", jobs}, {"memory", memory}, {"stack", stack}};
     for (size_t length = 0; length < 8; length++)
-        exact[length] = block_of(lent, length);
+        exact[length] = memset(block_of(length), 0, length);
     for (size_t i = 0; argc == 2 && i < sizeof modes / sizeof *modes; i++)
         if (strcmp(argv[1], modes[i].name) == 0) {
             modes[i].runs();

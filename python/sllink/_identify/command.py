@@ -39,43 +39,30 @@ Example: the packets of a recording, with the options that are found:
 """
 
 import os
-from typing import List, Tuple
+from typing import List
 
 from ..tool import Refused, reason_of, require_name, shown, write
 from . import identify
 
 NAME = "sllink-identify"
-USAGE = f"usage: {NAME} [--options] RECORDING"
 
 
 def main(words: List[str]) -> int:
     """What the tool does; its status."""
-    name, options = arguments(words)
-    try:
-        found = identify(name)
-    except OSError as error:
-        raise Refused(f"{shown(name)}: {reason_of(error)}") from None
-    if not options:
-        write(os.fsencode(f"{shown(name)}: {found}\n"))
-    elif found.words:
-        write(os.fsencode(" ".join(found.words) + "\n"))
-    return 0 if found.words or not options and found.why is None else 1
-
-
-def arguments(words: List[str]) -> Tuple[str, bool]:
-    """The recording, and whether only the options are wanted."""
-    names: List[str] = []
-    options = False
-    while words:
-        word, *words = words
-        if word == "--":
-            names += words
-            break
-        if word == "--options":
-            options = True
-        else:
-            require_name(word)
-            names.append(word)
+    end = words.index("--") if "--" in words else len(words)
+    names = [word for word in words[:end] if word != "--options"]
+    for name in names:
+        require_name(name)
+    names += words[end + 1:]
     if len(names) != 1:
-        raise Refused(f"one recording is wanted; {USAGE}")
-    return names[0], options
+        raise Refused(f"one recording is wanted; usage: {NAME} [--options] RECORDING")
+    try:
+        found = identify(names[0])
+    except OSError as error:
+        raise Refused(f"{shown(names[0])}: {reason_of(error)}") from None
+    if "--options" not in words[:end]:
+        write(os.fsencode(f"{shown(names[0])}: {found}\n"))
+        return 0 if found.why is None else 1
+    if found.words:
+        write(os.fsencode(" ".join(found.words) + "\n"))
+    return 0 if found.words else 1

@@ -1,7 +1,6 @@
 """What a recording is, and how the program reads it, found out by what its octets show."""
 
 import os
-from contextlib import closing
 from dataclasses import dataclass
 from typing import Optional, Tuple, Union
 
@@ -14,8 +13,8 @@ class Identification:
 
     `what` says it in some words, and `lines` say what was found. Where the recording is identified, `commands` are
     command lines of a shell that check it, one for each spacecraft, or that unpack it; else there are none, `why` says
-    why not, and `what` says what it may be. Where the program reads the recording as it is, `words` are the kind and the
-    options of its command line, as in `tm --scid 1 --tm-length 1115`.
+    why not, and `what` says what it may be. Where the program reads the recording as it is, `words` are the kind and
+    the options of its command line, as in `tm --scid 1 --tm-length 1115`.
     """
 
     what: str
@@ -45,11 +44,14 @@ def identify(recording: Union[str, bytes, "os.PathLike[str]", "os.PathLike[bytes
 
     OSError: it can't be read, or is no file.
     """
-    from .answer import RecordingFile                        # pylint: disable=import-outside-toplevel
-    from .choice import chosen                               # pylint: disable=import-outside-toplevel
+    from . import answer, choice                             # pylint: disable=import-outside-toplevel
     # not at the beginning, as most of what reads recordings knows what they are
-    with closing(RecordingFile(os.fsdecode(recording))) as file:
-        found = chosen(file)
-    sure = found.why is None
-    return Identification(found.what, tuple(found.lines), tuple(found.options if sure else ()),
-                          tuple(found.commands if sure else ()), found.why)
+    name = os.fsdecode(recording)
+    # a pipe that nobody writes into isn't waited for
+    with open(name, "rb", buffering=0, opener=lambda path, flags: os.open(path, flags | os.O_NONBLOCK)) as file:
+        try:
+            found = choice.likeliest(answer.RecordingFile(name, file))
+        except answer.Stopped as stopped:
+            found = answer.Answer("unknown", why=str(stopped))
+    return Identification(found.what, tuple(found.lines), tuple(found.options if found.sure else ()),
+                          tuple(found.commands if found.sure else ()), found.why)

@@ -1,6 +1,7 @@
 """The recording that is looked at, and what is answered: lines, and the command lines of a shell that read it."""
 
 import errno
+import io
 import os
 import shlex
 import stat
@@ -8,7 +9,7 @@ from bisect import bisect
 from dataclasses import dataclass, field
 from typing import List, Optional, Sequence, Tuple
 
-from .._signs import LONGEST, Frames, many
+from .._signs import LONGEST, Frames
 
 WHOLE, HEAD = 4 << 20, 1 << 20                            # up to WHOLE a recording is read whole; else HEAD first
 READ, LOOKS = 8 << 20, 800_000                            # octets, and frames or the like, that are looked at
@@ -27,18 +28,14 @@ class Stopped(Exception):
 class RecordingFile:
     """A file of which pieces are read. It counts what is read and looked at of it, whatever that is looked at for."""
 
-    def __init__(self, name: str) -> None:
-        self.name = name
-        # a pipe that nobody writes into isn't waited for
-        self._file = open(name, "rb", buffering=0, opener=lambda path, flags: os.open(path, flags | os.O_NONBLOCK))
-        about = os.fstat(self._file.fileno())
+    def __init__(self, name: str, file: io.FileIO) -> None:
+        about = os.fstat(file.fileno())
         if not stat.S_ISREG(about.st_mode):
-            self.close()
             raise OSError(errno.ESPIPE, "is no file that can be read at any place", name)
-        if not about.st_size and self._file.read(1) != b"":
-            self.close()
+        if not about.st_size and file.read(1) != b"":
             raise OSError(errno.ESPIPE, "is no file with a size, but one of the system", name)
-        self.size, self.read_of, self.looks = about.st_size, 0, 0
+        self.name, self.size, self._file = name, about.st_size, file
+        self.read_of = self.looks = 0
 
     def look(self, place: int, looks: int = 1) -> None:
         """Counts looks at frames, headers or code blocks that begin here. Stopped: they are too many."""
@@ -46,23 +43,15 @@ class RecordingFile:
         if self.looks > LOOKS:
             raise Stopped(f"stopped at {place}, after {LOOKS} looks at frames, headers and code blocks")
 
-    def close(self) -> None:
-        """Closes the file."""
-        self._file.close()
-
     def read(self, offset: int, length: int) -> bytes:
         """The octets from an offset on, fewer only where the file ends. Stopped: they are too many."""
         self.read_of += max(0, min(length, self.size - offset))
         if self.read_of > READ:
             raise Stopped(f"stopped at {offset}, after {READ} octets that were read")
-        pieces = []
-        while length > 0:
-            piece = os.pread(self._file.fileno(), length, offset)
-            if not piece:
-                break
-            pieces.append(piece)
-            offset, length = offset + len(piece), length - len(piece)
-        return b"".join(pieces)
+        octets = b""
+        while more := os.pread(self._file.fileno(), length - len(octets), offset + len(octets)):
+            octets += more
+        return octets
 
 
 @dataclass(eq=False)
@@ -86,11 +75,6 @@ class Answer:
     def sure(self) -> bool:
         """Whether the commands are known."""
         return self.why is None
-
-    @property
-    def rank(self) -> Tuple[bool, int]:
-        """By how much it is better than another one."""
-        return self.sure, self.weight
 
     @property
     def whole(self) -> bool:
@@ -137,16 +121,14 @@ def beside(name: str, ending: str) -> str:
 
 def shell(recording: RecordingFile, words: Sequence[str], source: Optional[str] = None) -> str:
     """The command line that checks the recording."""
-    if source:
-        return f"{source} | sllink check {' '.join(words)}"
-    return f"sllink check {' '.join(words)} < {quoted(recording.name)}"
+    check = f"sllink check {' '.join(words)}"
+    return f"{source} | {check}" if source else f"{check} < {quoted(recording.name)}"
 
 
 def frames_line(recording: RecordingFile, frames: Frames, length: int, vain: bool = False) -> str:
     """The line on how many frames there are, or are looked at."""
-    if recording.size <= WHOLE and not vain:
-        return f"frames {frames.number}"
-    return f"frames {frames.number} looked at, of about {recording.size // length}"
+    part = f" looked at, of about {recording.size // length}" if recording.size > WHOLE or vain else ""
+    return f"frames {frames.number}{part}"
 
 
 def listed(lines: List[str], what: str) -> List[str]:
@@ -155,9 +137,11 @@ def listed(lines: List[str], what: str) -> List[str]:
 
 
 def piece_lines(pieces: Sequence[Piece]) -> List[str]:
-    """The lines on pieces between which frames shift, or on the first one, which isn't at the beginning."""
+    """The lines on pieces between which frames shift, or on the first one, where it isn't at the beginning."""
+    if pieces[0][0] == 0 and len(pieces) == 1:
+        return []
     lines = listed([f"piece at {start} octets {end - start}" for start, end in pieces], "pieces")
-    return [f"frames shift: octets are missing, or too many, between {many(len(pieces), 'piece')}"
+    return [f"frames shift: octets are missing, or too many, between {len(pieces)} pieces"
             if len(pieces) > 1 else "the first frame isn't at the beginning", *lines]
 
 
@@ -166,20 +150,17 @@ def astray(pieces: Sequence[Piece]) -> Optional[str]:
     return f"frames shift too often: there are {len(pieces)} pieces" if len(pieces) > PIECES else None
 
 
-def piece_command(name: str, start: int, end: int, size: int) -> str:
-    """The command that writes a piece."""
-    command = f"tail -c +{start + 1} {name}" if start else f"head -c {end} {name}"
-    return f"{command} | head -c {end - start}" if start and end < size else command
-
-
-def joined(recording: RecordingFile, pieces: Sequence[Piece]) -> str:
-    """The command that writes the whole frames of all pieces."""
+def joined(recording: RecordingFile, pieces: Sequence[Piece]) -> Optional[str]:
+    """The command that writes the whole frames of all pieces; none is needed for one from the beginning on."""
+    if pieces[0][0] == 0 and len(pieces) == 1:
+        return None
     name = quoted(recording.name)
     pieces = [(start, end) for start, end in pieces if end > start]
     if len(pieces) > LISTED:
         places = " ".join(f"{start + 1}:{end - start}" for start, end in pieces)
         return f"for piece in {places}; do tail -c +${{piece%:*}} {name} | head -c ${{piece#*:}}; done"
-    commands = [piece_command(name, start, end, recording.size) for start, end in pieces]
+    commands = [(f"tail -c +{start + 1} {name}" if start else f"head -c {end} {name}")
+                + (f" | head -c {end - start}" if start and end < recording.size else "") for start, end in pieces]
     return commands[0] if len(commands) == 1 else "(" + "; ".join(commands) + ")"
 
 

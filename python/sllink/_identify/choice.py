@@ -3,7 +3,7 @@
 from typing import List
 
 from .._signs import LONGEST, SHORTEST, right_fields
-from .answer import HEAD, TILED, WHOLE, Answer, RecordingFile, Stopped
+from .answer import HEAD, TILED, WHOLE, Answer, RecordingFile
 from .cadu import cadus
 from .cltu import cltus, stated
 from .other import archive, other_frames, space_packets
@@ -11,16 +11,8 @@ from .tc import tc
 from .tm import shifted_tm, tm
 
 
-def chosen(recording: RecordingFile) -> Answer:
-    """What the recording is, as far as it is looked at."""
-    try:
-        return likeliest(recording)
-    except Stopped as stopped:
-        return Answer("unknown", why=str(stopped))
-
-
 def likeliest(recording: RecordingFile) -> Answer:
-    """What the recording is."""
+    """What the recording is, of all that it may seem. Stopped: it would have to be looked at further."""
     if recording.size == 0:
         return Answer("empty", why="there is no octet")
     head = recording.read(0, recording.size if recording.size <= WHOLE else HEAD)

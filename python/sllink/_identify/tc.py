@@ -42,16 +42,14 @@ def tc_answer(recording: RecordingFile, found: TcFrames) -> List[Answer]:
         lines.append(f"other headers {rest}")
     lines.append(field_line(fecf, right))
     lines.append(f"longest frame {max(len(frame) for frame in frames if channel_of(frame)[0] in main)}")
-    words, pieces, source, why = uplinks[0].command(), found.pieces, None, why or astray(found.pieces)
-    if len(pieces) > 1 or pieces[0][0]:
-        lines += piece_lines(pieces)
-        if not whole:
-            pieces = [*pieces[:-1], (pieces[-1][0], recording.size)]
-        source = joined(recording, pieces)
+    lines += piece_lines(found.pieces)
+    *pieces, (begin, end) = found.pieces
+    words, why = uplinks[0].command(), why or astray(found.pieces)
+    source = joined(recording, [*pieces, (begin, end if whole else recording.size)])
     if not whole:
         lines.append("shifts after these octets aren't looked for")
-    elif found.end - found.pieces[-1][1] > 4:
-        lines.append(f"no such frames at {found.pieces[-1][1]}")
+    elif found.end - end > 4:
+        lines.append(f"no such frames at {end}")
     weight = right * 3 if fecf else 2 * len(frames)
     return [Answer("TC transfer frames", lines, words if source is None else (),
                    [shell(recording, words, source)], why, weight, found.covered / found.end, found.units,

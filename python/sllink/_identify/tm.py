@@ -78,7 +78,8 @@ def shifted_tm(recording: RecordingFile, head: bytes, known: Sequence[Answer]) -
             if multiple(stride, others) and frames.checked() < 2:
                 continue
             answer = tm_answer(recording, head, stride, (place + at) % stride, frames)
-            if answer and (stride not in best or answer.rank > best[stride].rank):
+            if answer and (stride not in best or (answer.sure, answer.weight) > (
+                    best[stride].sure, best[stride].weight)):
                 best[stride] = answer
         answers = completed(recording, head, list(best.values()))
         if known or any(answer.sure for answer in answers):
@@ -146,10 +147,8 @@ def tm_answer(recording: RecordingFile, head: bytes, length: int, phase: int, fr
     lines += listed([f"no such frames at {offset}" for offset in search.absent], "places without such frames")
     if search.covered() < 0.5:
         why = why or "less than half of the recording are such frames"
-    pieces, source, why = search.pieces, None, why or astray(search.pieces)
-    if len(pieces) > 1 or pieces[0][0]:
-        lines += piece_lines(pieces)
-        source = joined(recording, pieces)
+    lines += piece_lines(search.pieces)
+    source, why = joined(recording, search.pieces), why or astray(search.pieces)
     weight = known.checked() * 3 if fecf else known.rising()[0]
     return Answer(f"TM transfer frames of {length} octets", lines,
                   tm_command(known.main[0], length, fecf) if source is None else (),

@@ -3,7 +3,7 @@
 import re
 from binascii import crc_hqx
 from collections import Counter
-from itertools import islice
+from itertools import compress, islice, takewhile
 from typing import Dict, Iterable, Iterator, List, Optional, Sequence, Tuple
 
 from .._signs import FOLLOWED, Frames, by_control, inner, right_fields
@@ -31,9 +31,10 @@ class TmSearch:
         self.pieces: List[Piece] = []
         self.absent: List[int] = []
         self.last: Dict[Tuple[int, ...], int] = {}           # the last value of each count
+        self.block, self.base = head, 0                      # what is looked at, and where it begins
         self.vain = False
-        self.places = self.doubts = self.tried = self.base = 0     # where a block that is looked at begins
-        pieces = self.scan(head, 0, phase)
+        self.places = self.doubts = self.tried = 0
+        pieces = self.scan(phase)
         self.others = [] if fecf else self.strangers(pieces)
         self.add(pieces)
         self.in_head = sum(end - begin for begin, end in self.pieces) / (self.pieces[-1][1] if self.vain else len(head))
@@ -51,202 +52,188 @@ class TmSearch:
         return list(islice(((at, at + length) for begin, end in self.pieces
                             for at in range(begin, min(end, len(self.head)), self.length)), COMPARED))
 
-    def fits(self, block: bytes, at: int) -> bool:
+    def rows(self, at: int, number: int) -> range:
+        """So many places of frames from here on, or as many as are whole."""
+        return range(at, min(at + (number - 1) * self.length, len(self.block) - self.length) + 1, self.length)
+
+    def fits(self, at: int, looks: int = 1) -> bool:
         """Whether a frame of these seems to be here."""
-        self.recording.look(self.base + at)
-        return self.seems(block, at)
-
-    def seems(self, block: bytes, at: int) -> bool:
-        """The same, where it is counted otherwise."""
+        self.recording.look(self.base + at, looks)
         if self.fecf:
-            return block[at] < 64 and not crc_hqx(block[at:at + self.length], 0xFFFF)
-        return (block[at] << 4 | block[at + 1] >> 4) in self.keys
+            return self.block[at] < 64 and not crc_hqx(self.block[at:at + self.length], 0xFFFF)
+        return (self.block[at] << 4 | self.block[at + 1] >> 4) in self.keys
 
-    def goes_on(self, block: bytes, at: int) -> bool:
+    def goes_on(self, at: int) -> bool:
         """Whether frames come after this one."""
         self.recording.look(self.base + at, 3 if self.fecf else 1)
-        after = [self.seems(block, place) for place in
-                 range(at + self.length, min(at + 4 * self.length, len(block) - self.length + 1), self.length)]
+        after = [self.fits(place, 0) for place in self.rows(at + self.length, 3)]
         return sum(after) >= max(1, min(2, len(after)))
 
-    def first(self, block: bytes, at: int) -> Optional[int]:
+    def first(self, at: int) -> Optional[int]:
         """The first place from here on at which frames lie one after another."""
         step = 4 * self.length
-        for start in range(at, min(len(block), at + SEARCHED), step):
-            found = [start + place for place in agreements(block[start:start + 2 * step], self.length, self.keys)]
+        for start in range(at, min(len(self.block), at + SEARCHED), step):
+            found = [start + it for it in agreements(self.block[start:start + 2 * step], self.length, self.keys)]
             self.recording.look(self.base + start, 1 + step // 128 + len(found) // 16)
-            place = next((place for place in found
-                          if place < start + step and self.fits(block, place) and self.goes_on(block, place)), None)
-            if place is not None:
-                place = place if self.fecf else self.likeliest(block, place, found)
-                while place - self.length >= at and self.before(block, place - self.length):
-                    place -= self.length
-                return place
+            for place in found:
+                if place < start + step and self.fits(place) and self.goes_on(place):
+                    place = place if self.fecf else self.likeliest(place, found)
+                    while place - self.length >= at and self.before(place - self.length):
+                        place -= self.length
+                    return place
         return None
 
-    def likeliest(self, block: bytes, first: int, found: Sequence[int]) -> int:
+    def likeliest(self, first: int, found: Sequence[int]) -> int:
         """The first place, or one within its frame that lies as many others do, and from which counts rise more
         often."""
         others = Counter((place - first) % self.length for place in found).most_common(3)
         best = first
         for place in sorted(first + phase for phase, _ in others if phase):
-            if place in found and self.goes_on(block, place) and self.rises(block, place, best) > self.rises(
-                    block, best, best):
+            if place in found and self.goes_on(place) and self.rises(place, best) > self.rises(best, best):
                 best = place
         return best
 
-    def rises(self, block: bytes, at: int, other: int) -> int:
+    def rises(self, at: int, other: int) -> int:
         """How many counts rise by one in the frames from here on, of as many as fit from another place on."""
         last: Dict[Tuple[int, ...], int] = {}
-        number = rows = 0
-        while rows < NEAR and other + (rows + 1) * self.length <= len(block) and self.fits(
-                block, other + rows * self.length):
-            rows += 1
-        for place in range(at, min(at + rows * self.length, len(block) - 3), self.length):
-            if self.fits(block, place):
-                for count, value in self.counts(block, place):
+        number, rows = 0, sum(1 for _ in takewhile(self.fits, self.rows(other, NEAR)))
+        for place in range(at, min(at + rows * self.length, len(self.block) - 3), self.length):
+            if self.fits(place):
+                for count, value in self.counts(place):
                     number += value == (last.get(count, value) + 1) & 255
                     last[count] = value
         return number
 
-    @staticmethod
-    def counts(block: bytes, at: int) -> Tuple[Count, Count]:
+    def counts(self, at: int) -> Tuple[Count, Count]:
         """The two counts of the frame here: that of the spacecraft, and that of the virtual channel."""
-        key = block[at] << 4 | block[at + 1] >> 4
-        return ((key,), block[at + 2]), ((key, block[at + 1] >> 1 & 7), block[at + 3])
+        first, second, mc, vcc = self.block[at:at + 4]
+        return ((first << 4 | second >> 4,), mc), ((first << 4 | second >> 4, second >> 1 & 7), vcc)
 
-    def before(self, block: bytes, at: int) -> bool:
+    def before(self, at: int) -> bool:
         """Whether this is a frame that comes a little before the next one, or is the same."""
-        after = at + self.length
-        return self.fits(block, at) and (self.fecf or 0 < (block[after + 2] - block[at + 2]) & 255 <= NEAR
-                                         or block[at:after] == block[after:after + self.length])
+        block, after = self.block, at + self.length
+        return self.fits(at) and (self.fecf or 0 < (block[after + 2] - block[at + 2]) & 255 <= NEAR
+                                  or block[at:after] == block[after:after + self.length])
 
-    def shifted(self, block: bytes, at: int) -> bool:
+    def shifted(self, at: int) -> bool:
         """Whether the frame here only seems one, as frames lie otherwise from here on: none of its counts goes on, and
         those of others do."""
-        if self.doubts >= DOUBTS or 1 in self.ahead(block, at):
+        if self.doubts >= DOUBTS or 1 in self.ahead(at):
             return False
         self.doubts += 1
-        here, end = at - self.length + 1, min(at, len(block) - self.length + 1)
-        seeming = islice(self.headers(block, here, end + self.length - 1), SEEMING)
-        if any(self.ahead(block, place) == [1, 1] for place in seeming):
+        here = at - self.length + 1
+        if any(self.ahead(it) == [1, 1] for it in islice(self.headers(here, at + self.length - 1), SEEMING)):
             return True
-        place = self.first(block, here)
-        return place is not None and place < at + self.length and self.rises(block, place, at) > self.rises(
-            block, at, at)
+        place = self.first(here)
+        return place is not None and place < at + self.length and self.rises(place, at) > self.rises(at, at)
 
-    def ahead(self, block: bytes, at: int) -> List[int]:
+    def ahead(self, at: int) -> List[int]:
         """How far the two counts of the frame here are ahead of the last ones."""
-        return [(value - self.last.get(count, value)) & 255 for count, value in self.counts(block, at)]
+        return [(value - self.last.get(count, value)) & 255 for count, value in self.counts(at)]
 
-    def headers(self, block: bytes, at: int, end: int) -> Iterator[int]:
+    def headers(self, at: int, end: int) -> Iterator[int]:
         """The places from here on, before the end, at which a frame of these spacecraft may begin."""
-        firsts, seconds = (re.escape(bytes(octet for octet in range(256) if table[octet]))
-                           for table in header_tables(self.keys))
-        for place in re.compile(b"(?=[" + firsts + b"][" + seconds + b"])", re.DOTALL).finditer(block, at, end + 1):
-            if place.start() + self.length <= len(block) and self.fits(block, place.start()):
-                yield place.start()
+        firsts, seconds = (re.escape(bytes(compress(range(256), table))) for table in header_tables(self.keys))
+        header = re.compile(b"(?=[" + firsts + b"][" + seconds + b"])", re.DOTALL)
+        for place in map(re.Match.start, header.finditer(self.block, at, end + 1)):
+            if place + self.length <= len(self.block) and self.fits(place):
+                yield place
 
-    def walk(self, block: bytes, begin: int) -> Tuple[int, List[Piece], Optional[int]]:
+    def walk(self, begin: int) -> Tuple[int, List[Piece], Optional[int]]:
         """Where the piece that begins here ends, the few frames after it, and where the next piece begins. Where what
         comes next begins within its last frame, and no error control says that this is whole, it ends before that."""
-        at, end = begin, begin + self.length
-        while at + self.length <= len(block):
-            if not self.fits(block, at):
-                if not self.goes_on(block, at):
+        end = begin + self.length
+        for at in range(begin, len(self.block) - self.length + 1, self.length):
+            if self.fits(at):
+                if not self.fecf and at > begin and self.shifted(at):
                     break
-            elif not self.fecf and at > begin and self.shifted(block, at):
-                break
-            else:
                 end = at + self.length
-                self.last.update(self.counts(block, at))
-            at += self.length
+                self.last.update(self.counts(at))
+            elif not self.goes_on(at):
+                break
         here = end if self.fecf else end - self.length + 1
-        following = self.first(block, here)
-        few = self.few(block, here, len(block) if following is None else following)
+        following = self.first(here)
+        few = self.few(here, len(self.block) if following is None else following)
         after = few[0][0] if few else following
         return end if after is None or after >= end else end - self.length, few, following
 
-    def scan(self, block: bytes, base: int, at: Optional[int] = None) -> List[Piece]:
-        """The pieces of a block, which begins at offset `base`."""
+    def scan(self, at: Optional[int] = None) -> List[Piece]:
+        """The pieces of the block, of which the first one may be known to begin here."""
         pieces: List[Piece] = []
-        begun, walks, self.base = bool(self.last), 0, base
-        if at is None or at + self.length > len(block) or not (self.fits(block, at) and self.goes_on(block, at)):
-            at = self.first(block, 0)
-        if at and not begun:
-            pieces += self.few(block, max(0, at - NEAR * self.length), at) if self.fecf else self.early(block, at)
-        covered, judged = self.length * len(pieces), self.fecf or base > 0
+        if at is None or at + self.length > len(self.block) or not (self.fits(at) and self.goes_on(at)):
+            at = self.first(0)
+        if at and not self.base:
+            pieces += self.few(max(0, at - NEAR * self.length), at) if self.fecf else self.early(at)
+        walks, covered, judged = 0, self.length * len(pieces), self.fecf or self.base > 0
         while at is not None:
-            end, few, following = self.walk(block, at)
-            self.recording.look(base + end, 2 * ((end - at) // self.length + len(few)))    # when they are asked
+            end, few, following = self.walk(at)
+            self.recording.look(self.base + end, 2 * ((end - at) // self.length + len(few)))    # when they are asked
             pieces += [(at, end), *few]
             walks, covered = walks + 1, covered + end - at + self.length * len(few)
             if walks % 64 == 0 and covered < 0.3 * end:
                 break
             if not judged and covered > (FOLLOWED + NEAR) * self.length:
-                judged, self.vain = True, self.in_vain(block, pieces)
+                judged, self.vain = True, self.in_vain(pieces)
                 if self.vain:
                     break
             at = following
-        self.stretches += self.frames_in(block, pieces)
-        pieces = [(begin, end) for begin, end in pieces if begin < end]
-        return [(base + begin, base + end) for begin, end in pieces]
+        self.stretches += self.frames_in(pieces)
+        return [(self.base + begin, self.base + end) for begin, end in pieces if begin < end]
 
-    def in_vain(self, block: bytes, pieces: Sequence[Piece]) -> bool:
+    def in_vain(self, pieces: Sequence[Piece]) -> bool:
         """Whether the first frames leave open what follows each, and hardly a later one has a right error control
         field."""
-        stretches, end = self.frames_in(block, pieces), pieces[-1][1]
-        known, step = Frames(stretches, self.length), max(1, (len(block) - end) // self.length // 64) * self.length
+        stretches, last = self.frames_in(pieces), self.rows(pieces[-1][1], len(self.block))
+        known = Frames(stretches, self.length)
         return known.followed == FOLLOWED and by_control(known)[1] is not None and not inner(max(stretches, key=len)) \
-            and not right_fields(block[at:at + self.length] for at in range(end, len(block) - self.length + 1, step))
+            and not right_fields(self.block[at:at + self.length] for at in last[::max(1, len(last) // 64)])
 
-    def frames_in(self, block: bytes, pieces: Sequence[Piece]) -> List[List[bytes]]:
-        """The frames of the pieces of a block."""
-        return [[block[place:place + self.length] for place in range(begin, end, self.length)]
+    def frames_in(self, pieces: Sequence[Piece]) -> List[List[bytes]]:
+        """The frames of the pieces of the block."""
+        return [[self.block[place:place + self.length] for place in range(begin, end, self.length)]
                 for begin, end in pieces if begin < end]
 
-    def early(self, block: bytes, end: int) -> List[Piece]:
+    def early(self, end: int) -> List[Piece]:
         """Frames from the beginning on that come a little before those of the first piece."""
-        pieces, at = [], 0
-        while at + self.length <= end and self.fits(block, at) and 0 < (block[end + 2] - block[at + 2]) & 255 <= NEAR:
-            pieces.append((at, at + self.length))
-            at += self.length
-        return pieces
+        block = self.block
+        return [(at, at + self.length) for at in takewhile(
+            lambda at: self.fits(at) and 0 < (block[end + 2] - block[at + 2]) & 255 <= NEAR,
+            range(0, end - self.length + 1, self.length))]
 
-    def few(self, block: bytes, at: int, end: int) -> List[Piece]:
+    def few(self, at: int, end: int) -> List[Piece]:
         """Frames between two pieces that are too few for a piece."""
         pieces: List[Piece] = []
         end = min(end, at + NEAR * self.length)
-        for place in self.headers(block, at, end - self.length + 1):
-            low, self.tried = pieces[-1][1] if pieces else at, self.tried + 1
+        for place in self.headers(at, end - self.length + 1):
+            self.tried += 1
             if self.tried > SINGLE:
                 break
-            if low <= place and (self.fecf or self.comes_next(block, place, end, bool(pieces) and place == low)):
-                pieces.append((place, place + self.length))
-                self.last.update(self.counts(block, place))
+            if at <= place and (self.fecf or self.comes_next(place, end, bool(pieces) and place == at)):
+                at = place + self.length
+                pieces.append((place, at))
+                self.last.update(self.counts(place))
         return pieces
 
-    def comes_next(self, block: bytes, at: int, end: int, led: bool) -> bool:
+    def comes_next(self, at: int, end: int, led: bool) -> bool:
         """Whether both counts are the ones that come next, or come soon after in a frame of packets, or that of the
         spacecraft does and another frame leads here or is the next one."""
-        ahead, after = self.ahead(block, at), at + self.length
-        led = led or after + self.length <= end and self.fits(block, after) and (
-            block[after + 2] - block[at + 2]) & 255 == 1
+        block, ahead, after = self.block, self.ahead(at), at + self.length
+        led = led or after + self.length <= end and self.fits(after) and (block[after + 2] - block[at + 2]) & 255 == 1
         soon = [0 < it <= NEAR for it in ahead]
         return ahead == [1, 1] or soon[0] and (led or soon[1] and block[at + 4] & 0x78 == PACKETS)
 
     def strangers(self, pieces: Sequence[Piece]) -> List[int]:
         """Further spacecraft: of the frames that lie as those of the pieces do, before, between and behind them."""
-        stretches, left, at = [], 1024, pieces[0][0] % self.length if pieces else 0
+        gaps, left, at = [], 1024, pieces[0][0] % self.length if pieces else 0
         for begin, end in [*pieces, (len(self.head), 0)] if pieces else ():
             if begin == len(self.head) or (begin - at) % self.length == 0:
-                last = min(begin, at + 64 * self.length) - self.length
-                stretches.append([self.head[place:place + self.length] for place in range(at, last + 1, self.length)])
-                left -= len(stretches[-1])
+                number = min((begin - at) // self.length, 64)
+                gaps.append((at, at + number * self.length))
+                left -= number
             at = end
             if left < 0:
                 break
-        frames = Frames(stretches, self.length)
+        frames = Frames(self.frames_in(gaps), self.length)
         return [key for key, number in frames.scids.items()
                 if key not in self.keys and frames.risen[key] >= number >= max(3, 0.02 * frames.number)]
 
@@ -273,55 +260,46 @@ class TmSearch:
         self.places = PLACES
         for place in range(1, PLACES + 1):
             right = min(len(self.head) + (size - len(self.head)) * place // PLACES, size - ROWS * self.length)
-            here = self.pieces[-1][0] % self.length
-            found = self.look(right, here)
-            if found is None:
+            found = self.look(right)
+            if found:
+                self.between(left, right, found[0])
+                self.stretches.append(found[1])
+                left = right
+            else:
                 self.absent.append(right)
                 if len(self.absent) > 16 + place // 2:
                     break
-                continue
-            there, stretch = found
-            if there != here:
-                self.between(left, here, right, there)
-            self.stretches.append(stretch)
-            left = right
 
-    def look(self, offset: int, phase: int, rows: int = ROWS) -> Optional[Tuple[int, List[bytes]]]:
-        """The phase of the frames at a place, with these frames: the one that is expected, or another one; None where
+    def read(self, offset: int, length: int) -> None:
+        """Looks at another block from now on."""
+        self.block, self.base = self.recording.read(offset, length), offset
+
+    def look(self, offset: int, rows: int = ROWS) -> Optional[Tuple[int, List[bytes]]]:
+        """The phase of the frames at a place, with these frames: that of the last piece, or another one; None where
         there are none."""
-        block, self.base = self.recording.read(offset, (rows + 1) * self.length), offset
-        found = [phase, *((offset + at) % self.length for at, _ in
-                          phases(block, self.length, self.keys).most_common(4))]
-        for other in found:
-            places = range((other - offset) % self.length, len(block) - self.length + 1, self.length)
-            fit = sum(self.fits(block, at) for at in places)
-            if fit < 0.55 * len(places):
-                continue
-            frames = [block[at:at + self.length] for at in places]
-            if self.fecf or Frames([frames], self.length).rising()[1] >= 0.3:
-                return other, frames
+        self.read(offset, (rows + 1) * self.length)
+        found = phases(self.block, self.length, self.keys).most_common(4)
+        for phase in self.pieces[-1][0] % self.length, *((offset + at) % self.length for at, _ in found):
+            places = range((phase - offset) % self.length, len(self.block) - self.length + 1, self.length)
+            if sum(map(self.fits, places)) >= 0.55 * len(places):
+                frames = [self.block[at:at + self.length] for at in places]
+                if self.fecf or Frames([frames], self.length).rising()[1] >= 0.3:
+                    return phase, frames
         return None
 
-    def between(self, left: int, here: int, right: int, there: int) -> None:
-        """Finds the shifts between two places by halves, at which it looks at few frames where they are enough."""
-        while right - left > ROWS * self.length:
-            middle = (left + right) // 2
-            found = self.look(middle, here, NEAR) or self.look(middle, here)
-            if found is None:
-                break
-            phase = found[0]
-            if phase not in (here, there):
-                self.between(left, here, middle, phase)
-                left, here = middle, self.pieces[-1][0] % self.length
-            elif phase == here:
-                left = middle
-            else:
-                right = middle
+    def between(self, left: int, right: int, there: int) -> None:
+        """Finds the shifts up to a place with this phase by halves, at which it looks at few frames where they are
+        enough."""
+        here, middle = self.pieces[-1][0] % self.length, (left + right) // 2
+        if here == there:
+            return
+        found = (self.look(middle, NEAR) or self.look(middle)) if right - left > ROWS * self.length else None
+        if found:
+            self.between(left, middle, found[0])
+            if found[0] != there:
+                self.between(middle, right, there)
+            return
         left -= min(left, 4 * self.length)
-        length = min(right - left + ROWS * self.length, WHOLE)
-        pieces = self.scan(self.recording.read(left, length), left)
-        if pieces and (pieces[0][0] - here) % self.length == 0:
-            self.pieces[-1] = self.pieces[-1][0], pieces[0][1]
-        else:
-            self.pieces[-1] = self.pieces[-1][0], left + (here - left) % self.length
-        self.add(pieces)
+        self.read(left, min(right - left + ROWS * self.length, WHOLE))
+        self.pieces[-1] = self.pieces[-1][0], left + (here - left) % self.length
+        self.add(self.scan())

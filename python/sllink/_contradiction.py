@@ -5,11 +5,12 @@ randomisation, and sync markers. No other option is held against a recording.
 """
 
 from collections import Counter as counter
-from typing import Counter, Dict, Iterator, List, NamedTuple, Optional, Sequence, Tuple
+from typing import Counter, Dict, Iterable, Iterator, List, NamedTuple, Optional, Sequence, Tuple
 
 from ._options import Options, Words, options_of
 from ._signs import (LONGEST_TC, MARKER, SHORTEST, Frames, by_control, columns, hardly_right, many, markers,
-                     mostly_right, randomiser, right_fields, strides, tc_field, tc_randomiser, unmasked)
+                     mostly_right, randomiser, right_fields, strides, tc_channel, tc_field, tc_frame, tc_randomiser,
+                     unmasked)
 
 MOST = 1000                                               # frames that are looked at
 ENOUGH = 5                                                # frames of a spacecraft, or of a length, too many for chance
@@ -139,77 +140,56 @@ class Command(NamedTuple):
     leads_on: bool
 
 
-class Commands:
+def commands(octets: bytes, mask: bytes = b"") -> List[Command]:
     """The TC frames that are found in octets by the lengths that they state. Where one leads astray, the next place is
-    searched for from which frames lead on."""
+    searched for from which three frames of a spacecraft lead on, or two up to the end."""
+    found: List[Command] = []
+    here: List[bytes] = []                                # the frames one after another from `at` to `end`, three at most
+    at, end, left, searching = 0, 0, SEARCHED, False
+    while left and at + 5 <= len(octets) and len(found) < MOST:
+        while len(here) < 3 and (frame := tc_frame(unmasked(octets[end:end + LONGEST_TC], mask))):
+            here.append(frame)
+            end += len(frame)
+        scids = [tc_channel(frame)[0] for frame in here]
+        astray = searching and (len(here) < (2 if end == len(octets) else 3) or len(set(scids)) > 1)
+        leads_on = len(here) < 3 and end == len(octets) or any(scid == scids[0] for scid in scids[1:])
+        if here and not astray:
+            found.append(Command(scids[0], here[0], leads_on))
+        searching = astray or not leads_on and len(here) < 3
+        if searching:
+            at, left, here = at + 1, left - 1, []
+            end = at
+        else:
+            at += len(here.pop(0))
+    return found
 
-    def __init__(self, octets: bytes, mask: bytes = b"") -> None:
-        self.octets, self.mask = octets, mask
-        self.left = SEARCHED
-        self.found: List[Command] = []
-        at: Optional[int] = 0
-        while at is not None and at + 5 <= len(octets) and len(self.found) < MOST:
-            here = self.chain(at)
-            if here:
-                scid, end = here[0]
-                leads_on = any(it[1] == len(octets) for it in here[:2]) or any(it[0] == scid for it in here[1:])
-                self.found.append(Command(scid, unmasked(octets[at:end], mask), leads_on))
-                if leads_on or len(here) == 3:
-                    at = end
-                    continue
-            at = self.search(at + 1)
-        self.scids = counter(it.scid for it in self.found)
 
-    def chain(self, at: int) -> List[Tuple[int, int]]:
-        """The spacecraft and the ends of the frames that lie one after another here, three at most."""
-        found: List[Tuple[int, int]] = []
-        while len(found) < 3 and at + 5 <= len(self.octets):
-            head = self.octets[at:at + 4]
-            first, second, third, fourth = unmasked(head, self.mask) if self.mask else head
-            length = ((third & 3) << 8 | fourth) + 1
-            at += length
-            if first & 0xCC or first & 0x30 == 0x10 or length < 6 or at > len(self.octets):
-                break
-            found.append(((first & 3) << 8 | second, at))
-        return found
+def of(found: Iterable[Command], scid: int) -> List[bytes]:
+    return [it.frame for it in found if it.scid == scid]
 
-    def search(self, at: int) -> Optional[int]:
-        """The next place from which three frames of a spacecraft lead on, or two up to the end."""
-        while self.left and at + 5 <= len(self.octets):
-            here = self.chain(at)
-            if len({it[0] for it in here}) == 1 and (len(here) == 3 or here[1:] and here[1][1] == len(self.octets)):
-                return at
-            at, self.left = at + 1, self.left - 1
-        return None
 
-    def most(self) -> Optional[int]:
-        """The spacecraft of which more than half of the frames are, if enough of these aren't the same."""
-        for scid, number in self.scids.most_common(1):
-            if 2 * number > len(self.found) and len(set(self.of(scid))) >= ENOUGH:
-                return scid
-        return None
-
-    def of(self, scid: int) -> List[bytes]:
-        return [it.frame for it in self.found if it.scid == scid]
-
-    def covered(self) -> int:
-        return sum(len(it.frame) for it in self.found)
+def most(found: Sequence[Command]) -> Optional[int]:
+    """The spacecraft of which more than half of the frames are, if enough of these aren't the same."""
+    for scid, number in counter(it.scid for it in found).most_common(1):
+        if 2 * number > len(found) and len(set(of(found, scid))) >= ENOUGH:
+            return scid
+    return None
 
 
 def tc_contradictions(octets: bytes, options: Options) -> Iterator[str]:
     """What TC frames show: first what the others may come of."""
-    commands, scid = Commands(octets), options.scid
-    if 2 * commands.scids[scid] <= len(commands.found):
-        other = commands.most()
+    found, scid = commands(octets), options.scid
+    own = of(found, scid)
+    if 2 * len(own) <= len(found):
+        other = most(found)
         if other is not None:
-            yield from another(commands.of(scid), commands.of(other), other, scid)
+            yield from another(own, of(found, other), other, scid)
             return
-        derandomised = Commands(octets, tc_randomiser())
-        if derandomised.most() is not None and derandomised.covered() > max(commands.covered(), len(octets) // 4):
+        plain = commands(octets, tc_randomiser())
+        covered, plainly = (sum(len(it.frame) for it in some) for some in (found, plain))
+        if most(plain) is not None and plainly > max(covered, len(octets) // 4):
             yield "its frames are randomised"
-    own = commands.of(scid)
-    longer = [len(it.frame) for it in commands.found
-              if it.scid == scid and it.leads_on and len(it.frame) > options.tc_length]
+    longer = [len(it.frame) for it in found if it.scid == scid and it.leads_on and len(it.frame) > options.tc_length]
     if len(longer) > 1 and 10 * len(longer) > len(own):
         yield (f"--tc-length is {options.tc_length}, and {len(longer)} of {many(len(own), 'frame')} are longer, up to "
                f"{max(longer)} octets")

@@ -310,6 +310,20 @@ def strides(block: bytes, mask: bytes = bytes(8), at: int = 0, version: int = 0)
 
 # TC frames.
 
+def tc_frame(octets: bytes, at: int = 0, damaged: bool = False) -> bytes:
+    """The whole frame here, by the length that it states; none where its version, its spare bits or its flags are none
+    of a frame, but where it may be damaged."""
+    if len(octets) < at + 6 or not damaged and (octets[at] & 0xCC or octets[at] & 0x30 == 0x10):
+        return b""
+    length = ((octets[at + 2] & 3) << 8 | octets[at + 3]) + 1
+    return octets[at:at + length] if 6 <= length <= len(octets) - at else b""
+
+
+def tc_channel(frame: bytes) -> Tuple[int, int]:
+    """The spacecraft and the virtual channel of a frame."""
+    return (frame[0] & 3) << 8 | frame[1], frame[2] >> 2
+
+
 def chained_packets(octets: bytes) -> bool:
     """Whether the octets are packets end to end."""
     at = 0

@@ -4,10 +4,9 @@ import re
 from collections import Counter
 from typing import Iterator, List, Optional, Sequence
 
-from .._signs import tc_field, tc_randomiser, unmasked
+from .._signs import tc_channel, tc_field, tc_randomiser, unmasked
 from .answer import Answer, RecordingFile, field_line, quoted, shell
 from .tc import Uplink
-from .tc_frames import channel_of
 
 START, TAIL = b"\xeb\x90", b"\xc5" * 7 + b"\x79"
 
@@ -36,7 +35,7 @@ def cltus(recording: RecordingFile, head: bytes) -> Optional[Answer]:
     for sequenced, name in (None, "not randomised"), (tc_randomiser(), "randomised"):
         plain = [unmasked(unit, sequenced) for unit in units]
         frames = [frame for unit in plain for frame in whole(unit)]
-        scids = Counter(channel_of(frame)[0] for frame in frames)
+        scids = Counter(tc_channel(frame)[0] for frame in frames)
         if frames and scids.most_common(1)[0][1] >= 0.8 * len(units):
             return coded(recording, frames, name, scids.most_common(1)[0][0], len(units), first, sequenced)
     return Answer("CLTUs", [f"start sequences (EB90) {len(units)}, the first one at {first}"],

@@ -4,9 +4,9 @@ from binascii import crc_hqx
 from collections import Counter
 from typing import Dict, Iterable, List, Optional, Sequence, Tuple
 
-from .._signs import chained_packets, many, tc_field
+from .._signs import chained_packets, many, tc_channel, tc_field
 from .answer import Answer, RecordingFile, astray, field_line, joined, piece_lines, shell
-from .tc_frames import Numbered, TcFrames, channel_of
+from .tc_frames import Numbered, TcFrames
 
 
 def tc(recording: RecordingFile, head: bytes) -> List[Answer]:
@@ -23,7 +23,7 @@ def tc_answer(recording: RecordingFile, found: TcFrames) -> List[Answer]:
     fecf, right, why = tc_field(frames)
     numbered: Dict[int, List[Numbered]] = {}
     for it in found.numbered:
-        numbered.setdefault(channel_of(it[1])[0], []).append(it)
+        numbered.setdefault(tc_channel(it[1])[0], []).append(it)
     scids = Counter({scid: len(some) for scid, some in numbered.items()})
     main = [scid for scid, number in scids.most_common() if number >= max(2, 0.05 * len(frames))] or [
         scid for scid, _ in scids.most_common(1)]
@@ -41,7 +41,7 @@ def tc_answer(recording: RecordingFile, found: TcFrames) -> List[Answer]:
     if rest:
         lines.append(f"other headers {rest}")
     lines.append(field_line(fecf, right))
-    lines.append(f"longest frame {max(len(frame) for frame in frames if channel_of(frame)[0] in main)}")
+    lines.append(f"longest frame {max(len(frame) for frame in frames if tc_channel(frame)[0] in main)}")
     lines += piece_lines(found.pieces)
     *pieces, (begin, end) = found.pieces
     words, why = uplinks[0].command(), why or astray(found.pieces)
@@ -67,7 +67,7 @@ class Uplink:
         self.starts: Dict[int, int] = {}
         channels: Dict[int, List[Numbered]] = {}
         for piece, frame in numbered:
-            if channel_of(frame)[0] == scid and not (fecf and crc_hqx(frame, 0xFFFF)):
+            if tc_channel(frame)[0] == scid and not (fecf and crc_hqx(frame, 0xFFFF)):
                 channels.setdefault(frame[2] >> 2, []).append((piece, frame[:-2] if fecf else frame))
         enough = 0 if fecf or len(channels) == 1 else min(2, 0.02 * sum(map(len, channels.values())))
         for vc, pieces in sorted(channels.items()):

@@ -25,6 +25,11 @@ def many(number: int, word: str) -> str:
     return f"{number} {word}" if number == 1 else f"{number} {word}s"
 
 
+def rows(octets: bytes, length: int, at: int = 0, number: Optional[int] = None) -> List[bytes]:
+    """So many rows of a length from here on, or all that are whole."""
+    return [octets[place:place + length] for place in range(at, len(octets) - length + 1, length)[:number]]
+
+
 # Randomisation: the sequences of the standards for TM (131.0-B) and for TC (231.0-B).
 
 def sequence(taps: Sequence[int], octets: int) -> bytes:

@@ -2,10 +2,10 @@
 
 from typing import List
 
-from .._signs import LONGEST, SHORTEST, right_fields
+from .._signs import LONGEST, SHORTEST, right_fields, rows, tc_frame
 from .answer import HEAD, TILED, WHOLE, Answer, RecordingFile
 from .cadu import cadus
-from .cltu import cltus, stated
+from .cltu import cltus
 from .other import archive, other_frames, space_packets
 from .tc import tc
 from .tm import shifted_tm, tm
@@ -40,9 +40,9 @@ def likeliest(recording: RecordingFile) -> Answer:
     answers = [answer for at, answer in enumerate(answers) if not any(
         answer.within(other, int(place > at)) for place, other in enumerate(answers) if other is not answer)]
     sure = [answer for answer in answers if answer.sure]
-    if packets in answers and packets and any(answer.weight > 20 * packets.weight for answer in sure):
-        answers.remove(packets)
-    if len(sure) == 1 and (not packets or packets not in answers):
+    if packets not in answers or packets and any(answer.weight > 20 * packets.weight for answer in sure):
+        answers, packets = [it for it in answers if it is not packets], None
+    if len(sure) == 1 and not packets:
         return sure[0]
     if before and before[0] in answers and not sure:
         return before[0]
@@ -50,7 +50,7 @@ def likeliest(recording: RecordingFile) -> Answer:
         return other_frames(recording, head) or Answer(
             "unknown", why="no headers agree at any distance from 32 to 2048 octets, and no lengths lead from frame to "
             "frame")
-    if packets and packets in answers:
+    if packets:
         return packets
     best = max(answers, key=lambda answer: answer.weight)
     if len(sure) > 1:
@@ -61,7 +61,6 @@ def likeliest(recording: RecordingFile) -> Answer:
 def framed(head: bytes) -> bool:
     """Whether the octets begin with frames: the first two of TC, or two of three TM frames of some length, have a right
     error control field."""
-    first = head[:stated(head[:4].ljust(4))]
-    return right_fields((first, head[len(first):][:stated(head[len(first):][:4].ljust(4))])) > 1 or any(
-        right_fields(head[at:at + length] for at in range(0, min(3 * length, len(head)), length)) > 1
-        for length in range(SHORTEST, LONGEST + 1))
+    first = tc_frame(head)
+    return right_fields((first, tc_frame(head, len(first)))) > 1 or any(
+        right_fields(rows(head, length, 0, 3)) > 1 for length in range(SHORTEST, LONGEST + 1))

@@ -4,9 +4,9 @@ import re
 from collections import Counter
 from typing import Iterator, List, Optional, Sequence
 
-from .._signs import tc_channel, tc_field, tc_randomiser, unmasked
+from .._signs import tc_channel, tc_field, tc_frame, tc_randomiser, unmasked
 from .answer import Answer, RecordingFile, field_line, quoted, shell
-from .tc import Uplink
+from .tc import uplink
 
 START, TAIL = b"\xeb\x90", b"\xc5" * 7 + b"\x79"
 
@@ -28,40 +28,31 @@ def cltus(recording: RecordingFile, head: bytes) -> Optional[Answer]:
             first, end = first if units else place.start(), at
             units.append(bytes(unit))
             covered += 8 + at - place.start()
-    if not units or covered < 0.2 * len(head):
+    if not units or covered < 0.2 * len(head) or head[:first].strip(b"\x55") and head[:first].strip(b"\xaa"):
         return None
-    if head[:first].strip(b"\x55") and head[:first].strip(b"\xaa"):
-        return None
-    for sequenced, name in (None, "not randomised"), (tc_randomiser(), "randomised"):
-        plain = [unmasked(unit, sequenced) for unit in units]
-        frames = [frame for unit in plain for frame in whole(unit)]
-        scids = Counter(tc_channel(frame)[0] for frame in frames)
-        if frames and scids.most_common(1)[0][1] >= 0.8 * len(units):
-            return coded(recording, frames, name, scids.most_common(1)[0][0], len(units), first, sequenced)
-    return Answer("CLTUs", [f"start sequences (EB90) {len(units)}, the first one at {first}"],
-                  why="no TC frames are in them, neither as they are nor derandomised")
-
-
-def stated(frame: bytes) -> int:
-    """The octets of a TC frame, by its header."""
-    return ((frame[2] & 3) << 8 | frame[3]) + 1
+    line = f"start sequences (EB90) {len(units)}, the first one at {first}"
+    for mask, name in (None, "not randomised"), (tc_randomiser(), "randomised"):
+        frames = [frame for unit in units for frame in whole(unmasked(unit, mask))]
+        for scid, number in Counter(tc_channel(frame)[0] for frame in frames).most_common(1):
+            if number >= 0.8 * len(units):
+                return coded(recording, frames, [line, name], scid, mask)
+    return Answer("CLTUs", [line], why="no TC frames are in them, neither as they are nor derandomised")
 
 
 def whole(unit: bytes) -> Iterator[bytes]:
     """The whole frames of a CLTU, one after another; after them come fill octets."""
     at = 0
-    while at + 5 <= len(unit) and not unit[at] >> 6 and 5 <= (long := stated(unit[at:at + 4])) <= len(unit) - at:
-        yield unit[at:at + long]
-        at += long
+    while frame := tc_frame(unit, at):
+        yield frame
+        at += len(frame)
 
 
-def coded(recording: RecordingFile, frames: Sequence[bytes], name: str, scid: int, number: int, first: int,
+def coded(recording: RecordingFile, frames: Sequence[bytes], lines: List[str], scid: int,
           mask: Optional[bytes]) -> Answer:
-    """The answer for TC frames in CLTUs."""
+    """The answer for TC frames in CLTUs, of which there are lines."""
     fecf, right, why = tc_field(frames)
-    uplink = Uplink([(0, frame) for frame in frames], scid, fecf)
-    lines = [f"start sequences (EB90) {number}, the first one at {first}", name,
-             f"spacecraft {scid} frames {len(frames)}", *uplink.lines, field_line(fecf, right)]
+    channels, words = uplink([(0, frame) for frame in frames], scid, fecf)
+    lines += [f"spacecraft {scid} frames {len(frames)}", *channels, field_line(fecf, right)]
     derandomise = "@a=(1)x8; push @a,$a[-2]^$a[-4]^$a[-5]^$a[-6]^$a[-7]^$a[-8] while @a<9000; " \
                   "$p=pack(\"B*\",join \"\",@a); " if mask else ""
     unmask = "$x^=substr($p,0,length $x); " if mask else ""
@@ -72,8 +63,7 @@ def coded(recording: RecordingFile, frames: Sequence[bytes], name: str, scid: in
               r'while(/\xeb\x90/g){$a=pos; $x=""; while(length($b=substr $_,$a,8)>7&&right($b)){$x.=substr $b,0,7; '
               '$a+=8} pos=$a; ' + unmask + "while(length $x>4&&64>ord $x){$n=1+(1023&unpack \"x2n\",$x); "
               "last if $n<5||$n>length $x; print substr $x,0,$n; $x=substr $x,$n}}' < " + quoted(recording.name))
-    return Answer("CLTUs: TC transfer frames in code blocks", lines, (), [shell(recording, uplink.command(), source)],
-                  why)
+    return Answer("CLTUs: TC transfer frames in code blocks", lines, (), [shell(recording, words, source)], why)
 
 
 def after(register: int) -> int:

@@ -21,22 +21,18 @@ def tc_answer(recording: RecordingFile, found: TcFrames) -> List[Answer]:
     if not frames or len(frames) > 2 and found.covered < 0.5 * found.pieces[-1][1]:
         return []
     fecf, right, why = tc_field(frames)
-    numbered: Dict[int, List[Numbered]] = {}
-    for it in found.numbered:
-        numbered.setdefault(tc_channel(it[1])[0], []).append(it)
-    scids = Counter({scid: len(some) for scid, some in numbered.items()})
+    scids = Counter(tc_channel(frame)[0] for frame in frames)
     main = [scid for scid, number in scids.most_common() if number >= max(2, 0.05 * len(frames))] or [
         scid for scid, _ in scids.most_common(1)]
-    enough = len(frames) >= 3 and sum(map(len, frames)) >= 0.5 * found.end
-    if not enough:
+    if len(frames) < 3 or sum(map(len, frames)) < 0.5 * found.end:
         why = f"{many(len(frames), 'frame')} of TC {'is' if len(frames) == 1 else 'are'} too few to be sure"
     elif not fecf and (8 * (len(found.pieces) - 1) > len(frames) or not ordered(frames)):
         why = why or "lengths lead from frame to frame, but too often astray, or N(S) doesn't rise"
     lines = [f"frames {len(frames)}" if whole else
              f"frames {len(frames)} looked at, in the first {found.end} of {recording.size} octets"]
-    uplinks = [Uplink(numbered[scid], scid, fecf) for scid in main]
-    for uplink in uplinks:
-        lines += [f"spacecraft {uplink.scid} frames {scids[uplink.scid]}", *uplink.lines]
+    uplinks = [uplink(found.numbered, scid, fecf) for scid in main]
+    for scid, (channels, _) in zip(main, uplinks):
+        lines += [f"spacecraft {scid} frames {scids[scid]}", *channels]
     rest = len(frames) - sum(scids[scid] for scid in main)
     if rest:
         lines.append(f"other headers {rest}")
@@ -44,59 +40,44 @@ def tc_answer(recording: RecordingFile, found: TcFrames) -> List[Answer]:
     lines.append(f"longest frame {max(len(frame) for frame in frames if tc_channel(frame)[0] in main)}")
     lines += piece_lines(found.pieces)
     *pieces, (begin, end) = found.pieces
-    words, why = uplinks[0].command(), why or astray(found.pieces)
-    source = joined(recording, [*pieces, (begin, end if whole else recording.size)])
+    source, words = joined(recording, [*pieces, (begin, end if whole else recording.size)]), uplinks[0][1]
     if not whole:
         lines.append("shifts after these octets aren't looked for")
     elif found.end - end > 4:
         lines.append(f"no such frames at {end}")
-    weight = right * 3 if fecf else 2 * len(frames)
-    return [Answer("TC transfer frames", lines, words if source is None else (),
-                   [shell(recording, words, source)], why, weight, found.covered / found.end, found.units,
-                   right / len(frames) if fecf or found.fecf else 0)]
+    return [Answer("TC transfer frames", lines, words if source is None else (), [shell(recording, words, source)],
+                   why or astray(found.pieces), right * 3 if fecf else 2 * len(frames), found.covered / found.end,
+                   found.units, right / len(frames) if fecf or found.fecf else 0)]
 
 
-class Uplink:
-    """What the TC frames of one spacecraft show: the lines on its virtual channels, which of these have no segment
-    headers, and where V(R) begins."""
-
-    def __init__(self, numbered: Iterable[Numbered], scid: int, fecf: Optional[bool]) -> None:
-        self.scid, self.fecf = scid, fecf
-        self.lines: List[str] = []
-        self.plain: List[int] = []
-        self.starts: Dict[int, int] = {}
-        channels: Dict[int, List[Numbered]] = {}
-        for piece, frame in numbered:
-            if tc_channel(frame)[0] == scid and not (fecf and crc_hqx(frame, 0xFFFF)):
-                channels.setdefault(frame[2] >> 2, []).append((piece, frame[:-2] if fecf else frame))
-        enough = 0 if fecf or len(channels) == 1 else min(2, 0.02 * sum(map(len, channels.values())))
-        for vc, pieces in sorted(channels.items()):
-            if len(pieces) >= enough:
-                self.add(vc, pieces)
-
-    def add(self, vc: int, pieces: List[Numbered]) -> None:
-        """Looks at the frames of a virtual channel."""
-        frames = [frame for _, frame in pieces]
-        types = Counter("bc" if frame[0] & 0x10 else "bd" if frame[0] & 0x20 else "ad" for frame in frames)
-        line = f"spacecraft {self.scid} vc {vc} frames {len(frames)} " + " ".join(
-            f"{kind} {types[kind]}" for kind in ("ad", "bd", "bc"))
-        headers = without_headers([frame[5:] for frame in frames if not frame[0] & 0x10 and len(frame) > 5])
-        if headers:
-            self.plain.append(vc)
-        line += f" segment headers {'no' if headers else 'unknown' if headers is None else 'yes'}"
-        numbers = [(piece, frame[4]) for piece, frame in pieces if not frame[0] & 0x30]
+def uplink(numbered: Iterable[Numbered], scid: int, fecf: Optional[bool]) -> Tuple[List[str], List[str]]:
+    """What the TC frames of one spacecraft show: the lines on its virtual channels, and the words with which the
+    program reads them, by the channels that have no segment headers and by where V(R) begins."""
+    channels: Dict[int, List[Numbered]] = {}
+    for piece, frame in numbered:
+        if tc_channel(frame)[0] == scid and not (fecf and crc_hqx(frame, 0xFFFF)):
+            channels.setdefault(frame[2] >> 2, []).append((piece, frame[:-2] if fecf else frame))
+    enough = 0 if fecf or len(channels) == 1 else min(2, 0.02 * sum(map(len, channels.values())))
+    lines: List[str] = []
+    plain: List[str] = []
+    starts: Dict[int, int] = {}
+    for vc, some in sorted(channels.items()):
+        if len(some) < enough:
+            continue
+        types = Counter("bc" if frame[0] & 0x10 else "bd" if frame[0] & 0x20 else "ad" for _, frame in some)
+        headers = without_headers([frame[5:] for _, frame in some if not frame[0] & 0x10 and len(frame) > 5])
+        plain += [str(vc)] if headers else []
+        numbers = [(piece, frame[4]) for piece, frame in some if not frame[0] & 0x30]
         if numbers:
-            self.starts[vc] = begins(numbers)
-            line += f" V(R) begins at {self.starts[vc]}"
-        self.lines.append(line)
-
-    def command(self) -> List[str]:
-        """The words with which the program reads these frames."""
-        words = ["tc", "--scid", str(self.scid), *(["--tc-fecf"] if self.fecf else [])]
-        words += ["--plain", ",".join(map(str, self.plain))] if self.plain else []
-        if any(self.starts.values()):
-            words += ["--vr-of", ",".join(f"{vc}:{start}" for vc, start in self.starts.items())]
-        return words
+            starts[vc] = begins(numbers)
+        lines.append(f"spacecraft {scid} vc {vc} frames {len(some)} ad {types['ad']} bd {types['bd']} bc {types['bc']} "
+                     f"segment headers {'no' if headers else 'unknown' if headers is None else 'yes'}"
+                     + (f" V(R) begins at {starts[vc]}" if numbers else ""))
+    words = ["tc", "--scid", str(scid), *(["--tc-fecf"] if fecf else [])]
+    words += ["--plain", ",".join(plain)] if plain else []
+    if any(starts.values()):
+        words += ["--vr-of", ",".join(f"{vc}:{start}" for vc, start in starts.items())]
+    return lines, words
 
 
 def ordered(frames: Sequence[bytes]) -> bool:
@@ -129,9 +110,9 @@ def without_headers(units: Sequence[bytes]) -> Optional[bool]:
             if flags == 2:
                 parts = series.pop(name)
                 headed += len(parts) if chained_packets(b"".join(parts)) else 0
-    if headed > 4 * plain or headed >= 1 and not plain:
+    if headed > 4 * plain:
         return False
-    if plain > 4 * headed or plain >= 1 and not headed:
+    if plain > 4 * headed:
         return True
     return None
 

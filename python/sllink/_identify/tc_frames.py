@@ -6,7 +6,7 @@ from collections import Counter
 from itertools import accumulate
 from typing import Dict, Iterator, List, Optional, Tuple
 
-from .._signs import fits_unit, right_fields, tc_channel, tc_frame
+from .._signs import fits_unit, mostly_right, right_fields, tc_channel, tc_frame
 from .answer import NEAR, PLACES, Piece, RecordingFile
 
 SEARCHED = 1 << 16                                        # octets in which the next frame is searched for
@@ -49,13 +49,11 @@ class TcFrames:
     def cut(self, places: List[Place]) -> Tuple[Optional[int], int]:
         """Where the next piece begins, and where this one ends: with its last frame, but before a frame within which
         the next piece begins."""
-        at, length = places[-1]
-        behind = self.begin(at + length)
-        if not crc_hqx(self.block[at:at + length], 0xFFFF):
-            return behind, at + length
-        within = self.begin(at + 1, at + length)
+        at, end = places[-1][0], sum(places[-1])
+        behind = self.begin(end)
+        within = self.begin(at + 1, end) if crc_hqx(self.block[at:end], 0xFFFF) else None
         if within is None or not self.fecf and self.misleads(within, behind):
-            return behind, at + length
+            return behind, end
         return within, at
 
     def misleads(self, within: int, behind: Optional[int]) -> bool:
@@ -67,8 +65,7 @@ class TcFrames:
     def common(self) -> Tuple[List[int], bool]:
         """The spacecraft of the longest run of frames that begins in the first octets, and whether their error control
         field is right."""
-        scids: List[int] = []
-        best = right = self.led = 0                          # the octets of that run
+        best: List[bytes] = []
         for begin in range(min(len(self.block), 4096)):
             found: List[bytes] = []
             at = begin
@@ -76,14 +73,14 @@ class TcFrames:
                     len(found) not in (1, 2, 3) or tc_channel(frame)[0] == tc_channel(found[0])[0]):
                 found.append(frame)
                 at += len(frame)
-            if len(found) > best:
-                best, right, self.led = len(found), right_fields(found), at - begin
-                scids = [scid for scid, number in Counter(tc_channel(frame)[0] for frame in found).items()
-                         if number >= max(2, 0.1 * len(found))]
-            if best >= 8:
+            best = max(best, found, key=len)
+            if len(best) >= 8:
                 break
-        self.led *= best >= 2
-        return scids if best >= 2 else [], right >= max(2, 0.5 * best)
+        best = best if len(best) >= 2 else []
+        self.led = sum(map(len, best))                       # the octets of that run
+        scids = Counter(tc_channel(frame)[0] for frame in best)
+        return [scid for scid, number in scids.items() if number >= max(2, 0.1 * len(best))], mostly_right(
+            right_fields(best), len(best))
 
     def outer(self) -> List["TcFrames"]:
         """The frames of another spacecraft with right error control fields, of which the run that begins in the first

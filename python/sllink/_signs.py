@@ -250,8 +250,6 @@ def by_control(frames: Frames) -> Tuple[Optional[bool], Optional[str]]:
 
 def inner(frames: Sequence[bytes]) -> Optional[int]:
     """The octets of each frame up to a right error control field, where it isn't at the end; else None."""
-    if len(frames) < 3:
-        return None
     counts: Counter[int] = counter()
     for frame in frames[:8]:
         register = 0xFFFF
@@ -295,21 +293,18 @@ def rising_rows(block: bytes, stride: int, at: int, rows: int, mask: bytes, vers
                if a == b and a >> 6 == version and c == d and (f - e) & 255 == 1)
 
 
-def strides(block: bytes, mask: bytes = bytes(8), at: int = 0, version: int = 0) -> List[Tuple[int, int, int]]:
+def strides(block: bytes, mask: bytes = bytes(8), version: int = 0) -> List[Tuple[int, int, int]]:
     """The distances at which headers agree that rise, each with how many do and how many rows there are."""
     found = []
-    for stride in range(SHORTEST, LONGEST + 1):
-        rows = min(128, (len(block) - at) // stride)
-        if rows < 2:
-            break
-        first, second = (block[at + place:at + rows * stride:stride] for place in (0, 1))
+    for stride in range(SHORTEST, min(LONGEST, len(block) // 2) + 1):
+        number = min(128, len(block) // stride)
+        first, second = (block[place:number * stride:stride] for place in (0, 1))
         keys = list(zip(first, second.translate(HIGH)))
         if len(keys) > 12 and counter(keys[:12]).most_common(1)[0][1] < 4 and len(set(keys)) > len(keys) * 0.8:
             continue
-        rise = max(rising_rows(block, stride, at, rows, mask, version),
-                   rising_rows(block, stride, at, min(rows, 16), mask, version))
-        if rise >= 2 and rise >= min(rows, 16) * 0.2:
-            found.append((stride, rise, rows))
+        rise = rising_rows(block, stride, 0, number, mask, version)
+        if rise >= 2 and rise >= min(number, 16) * 0.2:
+            found.append((stride, rise, number))
     return found
 
 

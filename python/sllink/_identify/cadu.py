@@ -28,7 +28,7 @@ def cadus(recording: RecordingFile, head: bytes) -> Optional[Answer]:
     answer = Answer(CADUS, why="the markers have no one distance")
     outer = next((there - at[0] for there in at[1:UNITS // 4] if outermost(at, there - at[0])), 0)
     if outer and (outer != distance or any((there - at[0]) % outer for there in at)):
-        answer = between(recording, head, range(at[0], at[-1] + 1, outer), outer, outer // 2)
+        answer = between(recording, head, range(at[0], at[-1] + 1, outer), outer)
     if not answer.sure and number >= 0.3 * (len(at) - 1) and distance - 4 >= SHORTEST:
         answer = between(recording, head, at, distance)
         answer.covered = distance * (1 + sum(distances[it] for it in distances if it % distance == 0)) / len(head)
@@ -36,50 +36,39 @@ def cadus(recording: RecordingFile, head: bytes) -> Optional[Answer]:
     return answer
 
 
-def between(recording: RecordingFile, head: bytes, at: Sequence[int], distance: int, least: int = 0) -> Answer:
-    """The answer for what lies between these markers, where it is frames of so many octets."""
-    places = [(here + 4, here + distance) for here in at[:PLACES] if here + distance <= len(head)]
-    record = at[0] if isinstance(at, range) else None
-    answer = unmarked(recording, [head[begin:end] for begin, end in places[:UNITS]], distance, least, record)
-    answer.places = places
-    return answer
-
-
 def outermost(at: Sequence[int], distance: int) -> bool:
     """Whether there are markers at this distance from the first one on: others are within frames."""
-    wanted, found = range(at[0], at[-1] + 1, distance)[:PLACES], 0
-    for number, place in enumerate(wanted if distance - 4 >= SHORTEST else ()):
-        found += at[bisect(at, place) - 1] == place
-        if number - found > 0.02 * len(wanted):
-            return False
-    return found > 2
+    wanted = range(at[0], at[-1] + 1, distance)[:PLACES] if distance - 4 >= SHORTEST else ()
+    found = sum(at[bisect(at, place) - 1] == place for place in wanted)
+    return found > 2 and len(wanted) - found <= 1 + 0.02 * len(wanted)
 
 
-def unmarked(recording: RecordingFile, units: Sequence[bytes], distance: int, least: int,
-             record: Optional[int]) -> Answer:
-    """The answer for what lies between sync markers. Where others are within frames, the command line goes by the
-    distance, from this first one on."""
+def between(recording: RecordingFile, head: bytes, at: Sequence[int], distance: int) -> Answer:
+    """The answer for what lies between these markers, where it is frames of so many octets. Where the markers are a
+    range, others are within frames: then these are no shorter than half of it, and the command line goes by it."""
+    places = [(here + 4, here + distance) for here in at[:PLACES] if here + distance <= len(head)]
     for mask, name in (None, "not randomised"), (randomiser(), "randomised"):
-        plain = [unmasked(unit[:LONGEST], mask) for unit in units]
-        for length in (it for it in lengths_within(plain, distance - 4) if it >= least):
+        plain = [unmasked(head[begin:end][:LONGEST], mask) for begin, end in places[:UNITS]]
+        for length in lengths_within(plain, distance - 4):
             frames = Frames([[frame[:length] for frame in plain]], length)
             fecf, why = by_control(frames)
-            if why or frames.are_packets or not fecf and not plain_evidence(frames):
+            if (why or frames.are_packets or not fecf and not plain_evidence(frames)
+                    or isinstance(at, range) and length < distance // 2):
                 continue
-            lines = [name, f"frames of {length} octets" + (
-                f", and {distance - 4 - length} octets after each, as of parity" if distance - 4 > length else "")]
-            lines += [f"frames {frames.number} looked at", *about_tm(frames, fecf)]
-            source = stripped(length, mask is not None) + f" < {quoted(recording.name)}"
-            if record is not None:
-                source = f"tail -c +{record + 5} {quoted(recording.name)} | " + stripped(
-                    length, mask is not None, f"$/=\\{distance}").replace("chomp; ", "")
-            return Answer(CADUS, lines, (), tm_commands(recording, frames, fecf, source),
+            after = f", and {distance - 4 - length} octets after each, as of parity" if distance - 4 > length else ""
+            lines = [name, f"frames of {length} octets{after}", f"frames {frames.number} looked at",
+                     *about_tm(frames, fecf)]
+            source = f"{stripped(length, mask)} < {quoted(recording.name)}"
+            if isinstance(at, range):
+                source = f"tail -c +{at.start + 5} {quoted(recording.name)} | {stripped(length, mask, distance)}"
+            return Answer(CADUS, lines, (), tm_commands(recording, frames, fecf, source), places=places,
                           right=frames.checked() / frames.number if fecf else 0)
         frames = Frames([plain], distance - 4)
         if frames.share > 0.75 and frames.rising()[1] > 0.3 and not frames.are_packets:
-            return Answer(CADUS, [name, *about_tm(frames, None)],
+            return Answer(CADUS, [name, *about_tm(frames, None)], places=places,
                           why="where a frame ends between two markers isn't plain")
-    return Answer(CADUS, why="between the markers there are no TM frames, neither as they are nor derandomised")
+    return Answer(CADUS, places=places,
+                  why="between the markers there are no TM frames, neither as they are nor derandomised")
 
 
 def lengths_within(frames: Sequence[bytes], longest: int) -> List[int]:
@@ -91,10 +80,9 @@ def lengths_within(frames: Sequence[bytes], longest: int) -> List[int]:
     return sorted({length for length in usual if SHORTEST <= length <= LONGEST}, reverse=True)
 
 
-def stripped(length: int, mask: bool, separator: str = '$/="\\x1a\\xcf\\xfc\\x1d"') -> str:
-    """The command that takes frames from between sync markers."""
-    if not mask:
-        return f"perl -e '{separator}; while(<STDIN>){{chomp; print substr($_,0,{length}) if length>={length}}}'"
-    return ("perl -e '@a=(1)x8; push @a,$a[-1]^$a[-3]^$a[-5]^$a[-8] while @a<16384; $p=pack(\"B*\",join \"\",@a); "
-            f"{separator}; while(<STDIN>){{chomp; print substr($_,0,{length})^substr($p,0,{length}) "
-            f"if length>={length}}}'")
+def stripped(length: int, mask: Optional[bytes], distance: int = 0) -> str:
+    """The command that takes frames from between sync markers, or where they lie at this distance."""
+    random = '@a=(1)x8; push @a,$a[-1]^$a[-3]^$a[-5]^$a[-8] while @a<16384; $p=pack("B*",join "",@a); ' if mask else ""
+    each = f"$/=\\{distance}; while(<STDIN>){{" if distance else r'$/="\x1a\xcf\xfc\x1d"; while(<STDIN>){chomp; '
+    plain = f"substr($_,0,{length})" + (f"^substr($p,0,{length})" if mask else "")
+    return f"perl -e '{random}{each}print {plain} if length>={length}}}'"

@@ -3,36 +3,31 @@
 import re
 from typing import Dict, List, Optional
 
-from .._signs import Frames, by_control, inner, plain_evidence, randomiser, strides, unmasked
+from .._signs import Frames, by_control, inner, plain_evidence, randomiser, rows, strides, unmasked
 from .answer import Answer, Piece, RecordingFile, beside, quoted
 from .cadu import stripped
 from .tm import about_tm, tm_commands
 
+CAPTURED = "tshark -r {} -T fields -e udp.payload | xxd -r -p > {}"
 ARCHIVES = (
     (b"\x1f\x8b", "compressed by gzip", "gunzip < {} > {}"),
     (b"BZh", "compressed by bzip2", "bunzip2 < {} > {}"),
     (b"\xfd7zXZ\0", "compressed by xz", "unxz < {} > {}"),
     (b"\x28\xb5\x2f\xfd", "compressed by zstd", "unzstd < {} > {}"),
-    (b"PK\3\4", "a zip archive", "unzip -p {} > {}"))
-CAPTURES = (
-    (b"\x0a\x0d\x0d\x0a", "a capture of the format pcapng"),
-    *((magic, "a capture of the format pcap") for magic in
+    (b"PK\3\4", "a zip archive", "unzip -p {} > {}"),
+    (b"\x0a\x0d\x0d\x0a", "a capture of the format pcapng, of packets of a network", CAPTURED),
+    *((magic, "a capture of the format pcap, of packets of a network", CAPTURED) for magic in
       (b"\xd4\xc3\xb2\xa1", b"\xa1\xb2\xc3\xd4", b"\x4d\x3c\xb2\xa1", b"\xa1\xb2\x3c\x4d")))
 
 
 def archive(recording: RecordingFile, head: bytes) -> Optional[Answer]:
     """An archive, a capture or hexadecimal digits, with the command that makes octets of frames of it."""
-    name = quoted(recording.name)
+    name, bare = quoted(recording.name), re.sub(r"\.(gz|bz2|xz|zst|zip)$", "", recording.name)
     for magic, what, command in ARCHIVES:
         if head.startswith(magic):
-            bare = re.sub(r"\.(gz|bz2|xz|zst|zip)$", "", recording.name)
-            target = quoted(bare) if bare != recording.name else beside(bare, ".unpacked")
+            ending = ".frames" if command == CAPTURED else ".unpacked"
+            target = beside(recording.name, ending) if command == CAPTURED or bare == recording.name else quoted(bare)
             return Answer(what, [], (), [command.format(name, target)], places=[(0, len(magic))])
-    for magic, what in CAPTURES:
-        if head.startswith(magic):
-            return Answer(f"{what}, of packets of a network", [], (),
-                          [f"tshark -r {name} -T fields -e udp.payload | xxd -r -p > "
-                           f"{beside(recording.name, '.frames')}"], places=[(0, len(magic))])
     if head and re.fullmatch(rb"[0-9A-Fa-f\s]*", head[:65536]) and re.search(rb"[0-9A-Fa-f]{8}", head[:65536]):
         return Answer("hexadecimal digits", [], (), [f"xxd -r -p < {name} > {beside(recording.name, '.octets')}"],
                       places=[(0, 8)])
@@ -59,24 +54,24 @@ def space_packets(recording: RecordingFile, head: bytes) -> Optional[Answer]:
 
 def other_frames(recording: RecordingFile, head: bytes) -> Optional[Answer]:
     """Frames that sllink doesn't read: of other versions, randomised or inverted ones."""
+    sequence = randomiser()
     cases = ((bytes(8), 1, "AOS transfer frames (version 1)", "sllink reads TM and TC frames"),
-             (randomiser()[:8], 0, "randomised TM transfer frames", None),
+             (sequence[:8], 0, "randomised TM transfer frames", None),
              (b"\xff" * 8, 0, "inverted TM transfer frames", "each bit is inverted"))
     for mask, version, what, why in cases:
-        found = [stride for stride, rise, rows in strides(head, mask, 0, version)
-                 if rise >= 3 and rise >= 0.5 * min(rows, 16)]
+        found = [stride for stride, rise, number in strides(head, mask, version)
+                 if rise >= 3 and rise >= 0.5 * min(number, 16)]
         if not found:
             continue
         stride = found[0]
         if why:
             return Answer(f"{what} of {stride} octets", why=why)
-        units = [head[at:at + stride] for at in range(0, len(head) - stride + 1, stride)][:256]
-        plain = [unmasked(unit, randomiser()) for unit in units]
+        plain = [unmasked(unit, sequence) for unit in rows(head, stride, 0, 256)]
         length = inner(plain) or stride
         frames = Frames([[frame[:length] for frame in plain]], length)
         fecf, why = by_control(frames)
         why = why or (None if fecf or plain_evidence(frames) else "too few headers agree")
-        source = stripped(length, True, f"$/=\\{stride}").replace("chomp; ", "") + f" < {quoted(recording.name)}"
+        source = f"{stripped(length, sequence, stride)} < {quoted(recording.name)}"
         commands = tm_commands(recording, frames, fecf, source)
         return Answer(f"{what} of {length} octets", about_tm(frames, fecf), (), commands, why)
     return None

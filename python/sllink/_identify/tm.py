@@ -2,44 +2,34 @@
 
 from binascii import crc_hqx
 from collections import Counter
-from typing import Dict, Iterable, List, Optional, Sequence, Set, Tuple
+from typing import Collection, Dict, Iterable, List, Optional, Sequence, Set, Tuple
 
-from .._signs import LONGEST, SHORTEST, Frames, by_control, inner, plain_evidence, right_fields, rising_rows, strides
-from .answer import (HEAD, WHOLE, Answer, Piece, RecordingFile, astray, field_line, frames_line, joined, listed,
+from .._signs import (LONGEST, SHORTEST, Frames, by_control, inner, plain_evidence, right_fields, rising_rows, rows,
+                      strides)
+from .answer import (HEAD, WHOLE, Answer, RecordingFile, astray, field_line, frames_line, joined, listed,
                      piece_lines, quoted, shell)
-from .headers import ROWS, phases, spacecraft
-from .tm_search import TmSearch
+from .tm_search import ROWS, TmSearch, phases
 
 FIRST, TRIED = 256, 24                                    # lengths that are looked at first; that are tried
 COMPLETED = 3                                             # lengths of which further places are read
 TURNS = 4                                                 # spacecraft whose frames come in turn
 
+Candidate = Tuple[bool, int, int, Frames]                 # without error control, a length, a phase, and frames there
+
 
 def tm(recording: RecordingFile, head: bytes) -> List[Answer]:
     """What the recording is as TM frames, by each length that may fit: first those that error control speaks for, and
     then from the shortest on."""
-    candidates: List[Tuple[bool, int, Frames]] = []
-    found = {stride: rise / rows for stride, rise, rows in strides(head)}
-    lengths_of = sorted(found, key=lambda stride: -found[stride])[:FIRST]
-    for stride in lengths_of + sorted(in_turn(head, lengths_of[:TRIED]) - set(found)):
-        rows = min(len(head) // stride, 64)
-        recording.look(rows * stride, 4 * rows)
-        frames = [head[at:at + stride] for at in range(0, rows * stride, stride)]
-        known = Frames([frames], stride, True)
-        first = Frames([frames[:12]], stride, True)
+    candidates: List[Candidate] = []
+    found = {stride: rise / number for stride, rise, number in strides(head)}
+    lengths = sorted(found, key=lambda stride: -found[stride])[:FIRST]
+    for stride in lengths + sorted(in_turn(head, lengths[:TRIED]) - set(found)):
+        frames = rows(head, stride, 0, 64)
+        recording.look(len(frames) * stride, 4 * len(frames))
+        known, first = (Frames([some], stride, True) for some in (frames, frames[:12]))
         if known.checked() >= 2 or any(it.share >= 0.5 and it.rising()[1] >= 0.3 for it in (known, first)):
-            candidates.append((known.checked() < 2, stride, known if known.share >= 0.5 else first))
-    answers: List[Answer] = []
-    lengths: List[int] = []
-    candidates = sorted(candidates, key=lambda candidate: candidate[2].evidence, reverse=True)[:TRIED]
-    for unchecked, stride, known in sorted(candidates, key=lambda candidate: candidate[:2]):
-        if unchecked and any(it.sure and it.right for it in answers):
-            break
-        answer = None if unchecked and multiple(stride, lengths) else tm_answer(recording, head, stride, 0, known)
-        if answer:
-            answers.append(answer)
-            lengths += [stride] if answer.covered >= 0.5 else []
-    return completed(recording, head, answers)
+            candidates.append((known.checked() < 2, stride, 0, known if known.share >= 0.5 else first))
+    return answers_for(recording, head, candidates)
 
 
 def shifted_tm(recording: RecordingFile, head: bytes, known: Sequence[Answer]) -> List[Answer]:
@@ -50,41 +40,47 @@ def shifted_tm(recording: RecordingFile, head: bytes, known: Sequence[Answer]) -
     for begin, end in (place for it in known for place in it.places):
         if not crc_hqx(head[begin:end], 0xFFFF):
             inside[begin:end] = b"\1" * (end - begin)
-    places = [0] if known or recording.size <= WHOLE // 64 else [0, recording.size // 2]
-    for place in places:
-        block = head[place:] if place < len(head) else recording.read(place, HEAD // 8)
-        block = block[:HEAD // 8]
+    for place in [0] if known or recording.size <= WHOLE // 64 else [0, recording.size // 2]:
+        block = head[place:place + HEAD // 8] or recording.read(place, HEAD // 8)
         found: List[Tuple[float, int, int]] = []
-        for stride in range(SHORTEST, LONGEST + 1):
-            if len(block) < (2 if known else 3) * stride:
-                break
-            counts = phases(block, stride, None, 12)
-            if known:
-                counts = Counter({at: rise for at, rise in counts.items() if not inside[at]})
+        for stride in range(SHORTEST, min(LONGEST, len(block) // (2 if known else 3)) + 1):
+            counts = Counter({at: rise for at, rise in phases(block, stride, None, 12).items() if not inside[at]})
             recording.look(place, stride // 20 + sum(counts.values()) // 16)
-            rows = min(12, len(block) // stride)
-            found += [(rise / rows, stride, at) for at, rise in counts.most_common(16 if known else 3)
-                      if (at, stride) not in begun and (rise >= max(3, 0.25 * rows) or known and right_fields(
-                          block[here:here + stride] for here in range(at, at + 3 * stride, stride)) > 1)]
-        candidates: List[Tuple[int, int, Frames]] = []
-        for _, stride, at in sorted(found, key=lambda it: (-it[0], it[1]))[:4 * TRIED]:
-            stretch = [block[offset:offset + stride] for offset in range(at, len(block) - stride + 1, stride)][:ROWS]
-            candidates.append((stride, at, Frames([stretch], stride, True)))
-        candidates = sorted(candidates, key=lambda candidate: candidate[2].evidence, reverse=True)[:TRIED]
-        best: Dict[int, Answer] = {}
-        for stride, at, frames in sorted(candidates, key=lambda candidate: candidate[:2]):
-            others = [length for length in best if length != stride and best[length].covered >= 0.5]
-            others += {length for _, length in begun}
-            if multiple(stride, others) and frames.checked() < 2:
-                continue
-            answer = tm_answer(recording, head, stride, (place + at) % stride, frames)
-            if answer and (stride not in best or (answer.sure, answer.weight) > (
-                    best[stride].sure, best[stride].weight)):
-                best[stride] = answer
-        answers = completed(recording, head, list(best.values()))
+            number = min(12, len(block) // stride)
+            found += [(rise / number, stride, at) for at, rise in counts.most_common(16 if known else 3)
+                      if (at, stride) not in begun and (rise >= max(3, 0.25 * number) or known and right_fields(
+                          rows(block, stride, at, 3)) > 1)]
+        found = sorted(found, key=lambda it: (-it[0], it[1]))[:4 * TRIED]
+        candidates = [(False, stride, (place + at) % stride, Frames([rows(block, stride, at, ROWS)], stride, True))
+                      for _, stride, at in found]
+        answers = answers_for(recording, head, candidates, {length for _, length in begun})
         if known or any(answer.sure for answer in answers):
             return answers
     return []
+
+
+def answers_for(recording: RecordingFile, head: bytes, candidates: Sequence[Candidate],
+                others: Collection[int] = ()) -> List[Answer]:
+    """The answers for those of the candidates that most speaks for, the best one for each length. A multiple of a
+    length that is found, or of one of these others, is none without error control. Of a large recording further places
+    are looked at for the answers that are sure, or else for the few that have most."""
+    best: Dict[int, Answer] = {}
+    likeliest = sorted(candidates, key=lambda it: it[3].evidence, reverse=True)[:TRIED]
+    for unchecked, length, phase, frames in sorted(likeliest, key=lambda it: it[:3]):
+        if unchecked and any(it.sure and it.right for it in best.values()):
+            break
+        known = [*others, *(it for it in best if it != length and best[it].covered >= 0.5)]
+        if frames.checked() < 2 and any(length % it == 0 for it in known):
+            continue
+        answer = tm_answer(recording, head, length, phase, frames)
+        if answer and (length not in best or (answer.sure, answer.weight) > (best[length].sure, best[length].weight)):
+            best[length] = answer
+    answers = list(best.values())
+    if recording.size == len(head):
+        return answers
+    chosen = [it for it in answers if it.sure] or sorted(answers, key=lambda it: (it.covered, it.weight))[-COMPLETED:]
+    again = [tm_answer(recording, head, *it.again, True) if it in chosen and it.again else it for it in answers]
+    return [it for it in again if it]
 
 
 def in_turn(head: bytes, lengths: Iterable[int]) -> Set[int]:
@@ -92,8 +88,7 @@ def in_turn(head: bytes, lengths: Iterable[int]) -> Set[int]:
     from frame to frame of the whole length."""
     found: Set[int] = set()
     for length in lengths:
-        end = min(12, len(head) // length) * length
-        if not goes_on(Frames([[head[at:at + length] for at in range(0, end, length)]], length)):
+        if not goes_on(Frames([rows(head, length, 0, 12)], length)):
             found |= {length // number for number in range(2, TURNS + 1)
                       if length % number == 0 and length // number >= SHORTEST}
     return found
@@ -106,16 +101,22 @@ def goes_on(frames: Frames) -> bool:
 
 def headers_within(head: bytes, length: int, phase: int) -> bool:
     """Whether headers of AOS or of other TM frames lie at equal distances within these frames."""
-    rows = min(len(head) // length - 1, 64)
-    offsets = {length // number * place for number in range(2, TURNS + 1) if length % number == 0
-               for place in range(1, number)}
-    return any(rising_rows(head, length, phase + offset, rows, bytes(8), version) >= max(3, 0.5 * rows)
+    number = min(len(head) // length - 1, 64)
+    offsets = {length // turns * place for turns in range(2, TURNS + 1) if length % turns == 0
+               for place in range(1, turns)}
+    return any(rising_rows(head, length, phase + offset, number, bytes(8), version) >= max(3, 0.5 * number)
                for offset in offsets for version in (0, 1))
 
 
-def multiple(length: int, others: Iterable[int]) -> bool:
-    """Whether the length is a multiple of another one."""
-    return any(length % other == 0 for other in others)
+def spacecraft(head: bytes, frames: Frames) -> List[int]:
+    """The spacecraft whose counts rise most often at this distance, in frames that are known and wherever they begin.
+    Where octets are missing or too many, later ones read at the old place may look like headers of another one, of
+    which fewer counts rise."""
+    length, risen = frames.length, Counter(frames.risen)
+    block = head[:4 * ROWS * length]
+    for phase, _ in phases(block, length, None, 4 * ROWS).most_common(4):
+        risen.update(Frames([rows(block, length, phase)], length, True).risen)
+    return [key for key, number in risen.most_common(1) if number]
 
 
 def tm_answer(recording: RecordingFile, head: bytes, length: int, phase: int, frames: Frames,
@@ -135,10 +136,9 @@ def tm_answer(recording: RecordingFile, head: bytes, length: int, phase: int, fr
     some = max(search.stretches, key=len)
     shorter = inner(some)
     if shorter and shorter < length and not (fecf and any(frame[shorter:].strip(b"\0") for frame in some)):
-        return trailed(recording, head, search, length, shorter)
+        return trailed(recording, search, length, shorter)
     if fecf is False and not plain_evidence(known):
-        rising, pairs = sum(known.steps.values()), sum(known.pairs.values())
-        why = f"too few headers agree, or too few counts rise: {rising} of {pairs}"
+        why = f"too few headers agree, or too few counts rise: {known.rising()[0]} of {sum(known.pairs.values())}"
     if fecf is False and not goes_on(known) and headers_within(head, length, search.pieces[0][0] % length):
         why = "headers of other frames lie within these, at equal distances"
     if fecf and known.checked() < 3 and recording.size % length:
@@ -153,19 +153,10 @@ def tm_answer(recording: RecordingFile, head: bytes, length: int, phase: int, fr
     return Answer(f"TM transfer frames of {length} octets", lines,
                   tm_command(known.main[0], length, fecf) if source is None else (),
                   () if why else tm_commands(recording, known, fecf, source), why, weight, search.covered(),
-                  search.units(length), share(head, search.units(length), fecf), (length, phase, frames))
+                  *search.units(length, fecf), (length, phase, frames))
 
 
-def completed(recording: RecordingFile, head: bytes, answers: List[Answer]) -> List[Answer]:
-    """The answers, of a large recording with further places: those that are sure, or else the few that have most."""
-    if recording.size == len(head):
-        return answers
-    chosen = [it for it in answers if it.sure] or sorted(answers, key=lambda it: (it.covered, it.weight))[-COMPLETED:]
-    again = [tm_answer(recording, head, *it.again, True) if it in chosen and it.again else it for it in answers]
-    return [it for it in again if it]
-
-
-def trailed(recording: RecordingFile, head: bytes, search: TmSearch, stride: int, length: int) -> Optional[Answer]:
+def trailed(recording: RecordingFile, search: TmSearch, stride: int, length: int) -> Optional[Answer]:
     """The answer for frames after each of which other octets come."""
     (*pieces, (begin, end)), name = search.pieces, quoted(recording.name)
     # nothing comes after the last frame, or a part of what does
@@ -175,21 +166,16 @@ def trailed(recording: RecordingFile, head: bytes, search: TmSearch, stride: int
         return None
     fecf, why = by_control(frames)
     source = f"perl -e '$/=\\{stride}; while(<STDIN>){{print substr($_,0,{length})}}'"
+    lines = [f"frames of {length} octets at each {stride}; {stride - length} other octets come with each, as of parity",
+             frames_line(recording, frames, stride), *about_tm(frames, fecf)]
     if len(pieces) > 1:
         source = f"{joined(recording, pieces)} | {source}"
+        lines += piece_lines(pieces)
     else:
-        source = f"tail -c +{pieces[0][0] + 1} {name} | {source}" if pieces[0][0] else f"{source} < {name}"
-    lines = [f"frames of {length} octets at each {stride}; {stride - length} other octets come with each, as of parity",
-             frames_line(recording, frames, stride), *about_tm(frames, fecf),
-             *(piece_lines(pieces) if len(pieces) > 1 else [])]
+        source = f"tail -c +{begin + 1} {name} | {source}" if begin else f"{source} < {name}"
     return Answer(f"TM transfer frames of {length} octets, with other octets between them", lines, (),
                   tm_commands(recording, frames, fecf, source), why, 3 * frames.checked(),
-                  search.covered() * length / stride, search.units(length), share(head, search.units(length), fecf))
-
-
-def share(head: bytes, places: Sequence[Piece], fecf: Optional[bool]) -> float:
-    """The share of the frames at these places whose error control field is right, where they have one."""
-    return right_fields(head[begin:end] for begin, end in places) / len(places) if fecf else 0
+                  search.covered() * length / stride, *search.units(length, fecf))
 
 
 def about_tm(frames: Frames, fecf: Optional[bool]) -> List[str]:
@@ -201,19 +187,15 @@ def about_tm(frames: Frames, fecf: Optional[bool]) -> List[str]:
         enough = 1 if frames.number < 100 or fecf else max(2, frames.number * 0.002)
         lines += [f"spacecraft {scid} vc {vc} frames {number} ocf {frames.fields[key, vc]}"
                   for (key, vc), number in sorted(frames.vcs.items()) if key == scid and number >= enough]
-    rest = frames.number - sum(frames.scids[scid] for scid in main)
-    if rest:
-        lines.append(f"other headers {rest}")
-    lines.append(field_line(fecf, frames.checked()))
-    control = sum(frames.fields[key, vc] for key, vc in frames.fields if key in main)
     total = sum(frames.scids[scid] for scid in main)
+    if total < frames.number:
+        lines.append(f"other headers {frames.number - total}")
+    control = sum(number for (key, _), number in frames.fields.items() if key in main)
     known = "yes" if control > 0.9 * total else "no" if control < 0.1 * total else "some"
-    lines.append(f"operational control field {known} frames {control}")
-    if frames.secondary > 0.05 * frames.number:
-        lines.append(f"secondary header frames {frames.secondary}, opaque for sllink")
-    if frames.access > 0.05 * frames.number:
-        lines.append(f"virtual channel access data frames {frames.access}, opaque for sllink")
-    return lines
+    lines += [field_line(fecf, frames.checked()), f"operational control field {known} frames {control}"]
+    opaque = {"secondary header": frames.secondary, "virtual channel access data": frames.access}
+    return lines + [f"{what} frames {number}, opaque for sllink" for what, number in opaque.items()
+                    if number > 0.05 * frames.number]
 
 
 def tm_command(scid: int, length: int, fecf: Optional[bool]) -> List[str]:

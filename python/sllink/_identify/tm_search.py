@@ -1,22 +1,65 @@
-"""TM frames of one length: where in a recording they lie, also where octets are missing or too many."""
+"""TM frames of one length: where in a recording their headers lie at this distance, and the frames, also where octets
+are missing or too many."""
 
 import re
 from binascii import crc_hqx
 from collections import Counter
+from functools import lru_cache
 from itertools import compress, islice, takewhile
-from typing import Dict, Iterable, Iterator, List, Optional, Sequence, Tuple
+from typing import Dict, FrozenSet, Iterable, Iterator, List, Optional, Sequence, Tuple
 
-from .._signs import FOLLOWED, Frames, by_control, inner, right_fields
+from .._signs import FOLLOWED, Frames, by_control, inner, right_fields, rows
 from .answer import NEAR, PLACES as COMPARED, WHOLE, Piece, RecordingFile
-from .headers import ROWS, agreements, header_tables, phases
 
+ROWS = 24                                                 # frames that are read at a place
 PLACES = 64                                               # further places that are read of a large recording
 SEARCHED = 1 << 17                                        # octets in which the next frame is searched for
 PACKETS = 0x18                                            # flags of a header: packets, and no segments
 DOUBTS, SINGLE = 64, 1 << 12                              # places looked at where no count goes on, and for few frames
 SEEMING = 64                                              # headers around a frame that are looked at
+ONE = {(low, end): bytes(low <= octet < end for octet in range(256)) for low, end in ((0, 1), (0, 2), (0, 16), (1, 2))}
 
+Keys = Optional[FrozenSet[int]]                           # versions and spacecraft of headers, or any
 Count = Tuple[Tuple[int, ...], int]                       # whose count it is, and its value
+
+
+def agreements(window: bytes, stride: int, keys: Keys = None) -> List[int]:
+    """Where the headers at this distance agree and a count rises."""
+    size = len(window) - stride
+    if size < 4:
+        return []
+    here, there = int.from_bytes(window[:size], "big"), int.from_bytes(window[stride:], "big")
+    high = int.from_bytes(b"\x80" * size, "big")
+    # Octet by octet: where they are the same, in which bits they differ, and by how much they rise.
+    same = (here ^ there).to_bytes(size, "big")
+    rise = ((there | high) - (here & ~high) ^ (here ^ ~there) & high) & (1 << 8 * size) - 1
+    up = int.from_bytes(rise.to_bytes(size, "big").translate(ONE[1, 2]), "big")
+    first = int.from_bytes(same.translate(ONE[0, 1]), "big")
+    counted = (int.from_bytes(same.translate(ONE[0, 16]), "big") << 8 & up << 16
+               | int.from_bytes(same.translate(ONE[0, 2]), "big") << 8 & up << 24)
+    for place, table in enumerate(header_tables(keys)):
+        first &= int.from_bytes(window[:size].translate(table), "big") << 8 * place
+    marks = (first & counted).to_bytes(size, "big")
+    if 16 * marks.count(1) > size:                           # which of both is faster
+        places = list(compress(range(size), marks))
+    else:
+        places = [place.start() for place in re.finditer(b"\x01", marks)]
+    return places if keys is None or len(keys) == 1 else [
+        at for at in places if window[at] << 4 | window[at + 1] >> 4 in keys]
+
+
+@lru_cache(maxsize=64)
+def header_tables(keys: Keys) -> List[bytes]:
+    """Which first and second octets headers of these spacecraft may have, or of any."""
+    if keys is None:
+        return [bytes(octet < 64 for octet in range(256))]
+    firsts, seconds = {key >> 4 for key in keys}, {key & 15 for key in keys}
+    return [bytes(octet in firsts for octet in range(256)), bytes(octet >> 4 in seconds for octet in range(256))]
+
+
+def phases(block: bytes, stride: int, keys: Keys = None, number: int = ROWS) -> "Counter[int]":
+    """Where headers agree at this distance and a count rises: how many at each offset modulo the distance."""
+    return Counter(at % stride for at in agreements(block[:stride * number], stride, keys))
 
 
 class TmSearch:
@@ -47,12 +90,14 @@ class TmSearch:
         """The share of the places, or of the octets that are read, at which there are frames."""
         return 1 - len(self.absent) / self.places if self.places else self.in_head
 
-    def units(self, length: int) -> List[Piece]:
-        """Where the first frames are, which may be shorter than the distance between them."""
-        return list(islice(((at, at + length) for begin, end in self.pieces
-                            for at in range(begin, min(end, len(self.head)), self.length)), COMPARED))
+    def units(self, length: int, fecf: Optional[bool]) -> Tuple[List[Piece], float]:
+        """Where the first frames are, which may be shorter than the distance between them, and the share of them whose
+        error control field is right, where they have one."""
+        units = list(islice(((at, at + length) for begin, end in self.pieces
+                             for at in range(begin, min(end, len(self.head)), self.length)), COMPARED))
+        return units, right_fields(self.head[begin:end] for begin, end in units) / len(units) if fecf else 0
 
-    def rows(self, at: int, number: int) -> range:
+    def starts(self, at: int, number: int) -> range:
         """So many places of frames from here on, or as many as are whole."""
         return range(at, min(at + (number - 1) * self.length, len(self.block) - self.length) + 1, self.length)
 
@@ -66,7 +111,7 @@ class TmSearch:
     def goes_on(self, at: int) -> bool:
         """Whether frames come after this one."""
         self.recording.look(self.base + at, 3 if self.fecf else 1)
-        after = [self.fits(place, 0) for place in self.rows(at + self.length, 3)]
+        after = [self.fits(place, 0) for place in self.starts(at + self.length, 3)]
         return sum(after) >= max(1, min(2, len(after)))
 
     def first(self, at: int) -> Optional[int]:
@@ -96,8 +141,8 @@ class TmSearch:
     def rises(self, at: int, other: int) -> int:
         """How many counts rise by one in the frames from here on, of as many as fit from another place on."""
         last: Dict[Tuple[int, ...], int] = {}
-        number, rows = 0, sum(1 for _ in takewhile(self.fits, self.rows(other, NEAR)))
-        for place in range(at, min(at + rows * self.length, len(self.block) - 3), self.length):
+        number, fit = 0, sum(1 for _ in takewhile(self.fits, self.starts(other, NEAR)))
+        for place in range(at, min(at + fit * self.length, len(self.block) - 3), self.length):
             if self.fits(place):
                 for count, value in self.counts(place):
                     number += value == (last.get(count, value) + 1) & 255
@@ -183,7 +228,7 @@ class TmSearch:
     def in_vain(self, pieces: Sequence[Piece]) -> bool:
         """Whether the first frames leave open what follows each, and hardly a later one has a right error control
         field."""
-        stretches, last = self.frames_in(pieces), self.rows(pieces[-1][1], len(self.block))
+        stretches, last = self.frames_in(pieces), self.starts(pieces[-1][1], len(self.block))
         known = Frames(stretches, self.length)
         return known.followed == FOLLOWED and by_control(known)[1] is not None and not inner(max(stretches, key=len)) \
             and not right_fields(self.block[at:at + self.length] for at in last[::max(1, len(last) // 64)])
@@ -274,15 +319,15 @@ class TmSearch:
         """Looks at another block from now on."""
         self.block, self.base = self.recording.read(offset, length), offset
 
-    def look(self, offset: int, rows: int = ROWS) -> Optional[Tuple[int, List[bytes]]]:
+    def look(self, offset: int, number: int = ROWS) -> Optional[Tuple[int, List[bytes]]]:
         """The phase of the frames at a place, with these frames: that of the last piece, or another one; None where
         there are none."""
-        self.read(offset, (rows + 1) * self.length)
+        self.read(offset, (number + 1) * self.length)
         found = phases(self.block, self.length, self.keys).most_common(4)
         for phase in self.pieces[-1][0] % self.length, *((offset + at) % self.length for at, _ in found):
             places = range((phase - offset) % self.length, len(self.block) - self.length + 1, self.length)
             if sum(map(self.fits, places)) >= 0.55 * len(places):
-                frames = [self.block[at:at + self.length] for at in places]
+                frames = rows(self.block, self.length, places.start)
                 if self.fecf or Frames([frames], self.length).rising()[1] >= 0.3:
                     return phase, frames
         return None

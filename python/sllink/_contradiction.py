@@ -1,16 +1,12 @@
-"""Options held against a recording: what its first thousand frames show that options deny.
-
-Five things are looked at: an error control field that is there or isn't, the length of the frames, their spacecraft,
-randomisation, and sync markers. No other option is held against a recording.
-"""
+"""Options held against a recording: what its first thousand frames show that options deny (docs/compare.md)."""
 
 from collections import Counter as counter
-from typing import Counter, Dict, Iterable, Iterator, List, NamedTuple, Optional, Sequence, Tuple
+from typing import Counter, Dict, Iterable, Iterator, List, NamedTuple, Optional, Sequence
 
 from ._options import Options, Words, options_of
 from ._signs import (LONGEST_TC, MARKER, SHORTEST, Frames, by_control, columns, hardly_right, many, markers,
-                     mostly_right, randomiser, right_fields, strides, tc_channel, tc_field, tc_frame, tc_randomiser,
-                     unmasked)
+                     mostly_right, randomiser, right_fields, rows, strides, tc_channel, tc_field, tc_frame,
+                     tc_randomiser, unmasked)
 
 MOST = 1000                                               # frames that are looked at
 ENOUGH = 5                                                # frames of a spacecraft, or of a length, too many for chance
@@ -73,7 +69,7 @@ class Headers:
         return None
 
     def of(self, scid: int) -> List[bytes]:
-        return [self.octets[at * self.length:(at + 1) * self.length] for at, key in enumerate(self.keys) if key == scid]
+        return [row for row, key in zip(rows(self.octets, self.length, 0, self.number), self.keys) if key == scid]
 
 
 def tm_contradictions(octets: bytes, options: Options) -> Iterator[str]:
@@ -113,8 +109,8 @@ def another_length(octets: bytes, headers: Headers, length: int, scid: int) -> O
             continue
         if found.frames[scid] >= ENOUGH and found.has(scid, 0.6):
             return other
-        frames = [octets[at * other:(at + 1) * other] for at in range(found.number)]
-        if found.other(scid) is not None and mostly_right(right_fields(frames), len(frames)):
+        right = right_fields(rows(octets, other, 0, found.number)) if found.other(scid) is not None else 0
+        if mostly_right(right, found.number):
             return other
     return None
 
@@ -144,7 +140,7 @@ def commands(octets: bytes, mask: bytes = b"") -> List[Command]:
     """The TC frames that are found in octets by the lengths that they state. Where one leads astray, the next place is
     searched for from which three frames of a spacecraft lead on, or two up to the end."""
     found: List[Command] = []
-    here: List[bytes] = []                                # the frames one after another from `at` to `end`, three at most
+    here: List[bytes] = []                                # frames one after another from `at` to `end`, three at most
     at, end, left, searching = 0, 0, SEARCHED, False
     while left and at + 5 <= len(octets) and len(found) < MOST:
         while len(here) < 3 and (frame := tc_frame(unmasked(octets[end:end + LONGEST_TC], mask))):

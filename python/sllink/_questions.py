@@ -1,12 +1,5 @@
-"""The questions about the options of a recording, which sllink-compare and a page ask.
-
-sllink-compare has a word for each, with which --allow answers it; that of the last one is the word of `check`.
-
-    options    the first thousand frames of a recording contradict its options
-    nothing    a recording delivers no packet
-    most       more than half of the frames of a recording are skipped
-    foreign    `check` has lines of a word that mostly comes of a wrong option
-"""
+"""The questions about the options of a recording, which sllink-compare (docs/compare.md has the words with which
+--allow answers them) and a page ask."""
 
 from typing import TYPE_CHECKING, Collection, Iterator, List, Sequence, Union
 

@@ -136,8 +136,7 @@ class Frames:
             self.take(stretch)
 
     def take(self, stretch: Sequence[bytes]) -> None:
-        last: Dict[int, int] = {}
-        last_of: Dict[Channel, int] = {}
+        last: Dict[Tuple[int, ...], int] = {}
         before, same = None, b""
         courses: Dict[Channel, Tuple[Course, Course]] = {}
         for frame in stretch:
@@ -145,10 +144,9 @@ class Frames:
                 continue
             key = frame[0] << 4 | frame[1] >> 4
             vc = key, frame[1] >> 1 & 7
-            right = not crc_hqx(frame, 0xFFFF)
             self.scids[key] += 1
             self.vcs[vc] += 1
-            self.right[key] += right
+            self.right[key] += not crc_hqx(frame, 0xFFFF)
             self.fields[vc] += frame[1] & 1
             self.secondary += frame[4] >> 7
             self.access += (frame[4] & 0xC0) == 0x40
@@ -156,20 +154,18 @@ class Frames:
             if frame == same:                             # one that comes twice says nothing more
                 continue
             same = frame
-            if key in last:
-                self.pairs["mc"] += 1
-                self.steps["mc"] += (frame[2] - last[key]) & 255 == 1
-                self.risen[key] += (frame[2] - last[key]) & 255 == 1
-            is_next = vc in last_of and (frame[3] - last_of[vc]) & 255 == 1
-            if vc in last_of:
-                self.pairs["vc"] += 1
-                self.steps["vc"] += is_next
-                self.risen[key] += is_next
+            for kind, whose, count in ("mc", (key,), frame[2]), ("vc", vc, frame[3]):
+                is_next = whose in last and (count - last[whose]) & 255 == 1
+                if whose in last:
+                    self.pairs[kind] += 1
+                    self.steps[kind] += is_next
+                    self.risen[key] += is_next
+                last[whose] = count
             if self.followed < FOLLOWED:
                 self.followed += 1
                 self.end(frame, is_next, courses.setdefault(vc, (Course(0), Course(2))))
             self.turns += before not in (None, key)
-            before, last[key], last_of[vc] = key, frame[2], frame[3]
+            before = key
 
     def end(self, frame: bytes, is_next: bool, courses: Tuple[Course, Course]) -> None:
         """Looks at what comes after the data of a frame."""
@@ -274,21 +270,21 @@ def markers(octets: bytes) -> "array[int]":
     return array("l", (place.start() for place in re.finditer(re.escape(MARKER), octets)))
 
 
-def columns(block: bytes, stride: int, at: int, rows: int, mask: bytes) -> List[bytes]:
+def columns(block: bytes, stride: int, at: int, number: int, mask: bytes) -> List[bytes]:
     """The first four octets of each row."""
-    end = at + rows * stride
+    end = at + number * stride
     return [block[at + place:end:stride].translate(XOR[mask[place]]) for place in range(4)]
 
 
-def rising_rows(block: bytes, stride: int, at: int, rows: int, mask: bytes, version: int = 0) -> int:
+def rising_rows(block: bytes, stride: int, at: int, number: int, mask: bytes, version: int = 0) -> int:
     """How many headers one after another agree and have a count that rises by one."""
-    first, second, mc, vcc = columns(block, stride, at, rows, mask)
+    first, second, mc, vcc = columns(block, stride, at, number, mask)
     if version == 0:
         return sum(1 for a, b, c, d, e, f, g, h in
                    zip(first, first[1:], second, second[1:], mc, mc[1:], vcc, vcc[1:])
                    if a == b and a < 64 and not (c ^ d) & 0xF0
                    and ((f - e) & 255 == 1 or not (c ^ d) & 0xFE and (h - g) & 255 == 1))
-    last = block[at + 4:at + rows * stride:stride].translate(XOR[mask[4]])
+    last = block[at + 4:at + number * stride:stride].translate(XOR[mask[4]])
     return sum(1 for a, b, c, d, e, f in zip(first, first[1:], second, second[1:], last, last[1:])
                if a == b and a >> 6 == version and c == d and (f - e) & 255 == 1)
 

@@ -1,4 +1,4 @@
-use Rattle.std.proofs.Common.{◌≡◌, sym}
+use Rattle.std.proofs.Common.{sym}
 use Rattle.std.proofs.lemmas.Result.{err_from_is_err_and}
 use Rattle.sl_link.proofs.lemmas.Verbs.Lister.{stops_frames, stops_finish, stops_flush, lists_all}
 use Rattle.sl_link.proofs.verbs.list_into.Goals as goal

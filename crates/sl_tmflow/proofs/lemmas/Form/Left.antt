@@ -22,7 +22,7 @@ use Rattle.sl_tmflow.specs.declared.form.Heading.{Heading}
 use Rattle.sl_tmflow.specs.declared.form.TmForm.TheInside.{Inside}
 use Rattle.sl_tmflow.proofs.lemmas.Form.Canonical.{short_room, wide_room}
 use Rattle.sl_tmflow.proofs.lemmas.Form.FieldStart.{found_in}
-use Rattle.sl_tmflow.proofs.lemmas.Form.Fill.{fill_is_least, filled_octets, filled_whole, filling_is, no_filling}
+use Rattle.sl_tmflow.proofs.lemmas.Form.Fill.{fill_is_least, filled_octets, filled_whole, no_filling}
 use Rattle.sl_tmflow.proofs.lemmas.Form.Frames.{none_beyond_filling}
 use Rattle.sl_tmflow.proofs.lemmas.Form.Pieces.{IsPending, beyond_few, fields_are, found_here, no_frames, numbered, numbered_later, pending_next, starts_here, starts_no_later, two_ranges}
 

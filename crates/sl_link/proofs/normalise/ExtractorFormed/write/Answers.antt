@@ -1,4 +1,4 @@
-use Rattle.std.proofs.Common.{◌≡◌, ◌≢◌, ◌∙◌, List, [], ℕ, arith, subst, take}
+use Rattle.std.proofs.Common.{◌≡◌, ◌≢◌, ◌∙◌, [], subst, take}
 use Rattle.std.proofs.lemmas.Result.{MatchResult-weaker, on_ok_weaker}
 use Rattle.sl_tmflow.proofs.lemmas.Form.Left.{none_at_all}
 use Rattle.sl_link.specs.Io.Streams.{StopsWriting, WritesText}

@@ -1,6 +1,5 @@
-use Rattle.std.proofs.Common.{◌++◌, [], ◌∙◌, ap, append-nil, arith, length-append, refl, rules, subst}
+use Rattle.std.proofs.Common.{◌∙◌, append-nil, arith, length-append, refl, rules}
 use Rattle.std.proofs.lemmas.Result.{MatchResult-weaker, on_ok_weaker}
-use Rattle.sl_link.specs.Io.Streams.{AddsText, StopsWriting, WritesText}
 use Rattle.sl_link.proofs.lemmas.Io.Streams.{all_written, stops_at_memory}
 use Rattle.sl_link.proofs.lemmas.Link.Answers.{passed_up}
 use Rattle.sl_link.proofs.lemmas.Normalise.Form.{chunk_written, form_begun, form_stopped, next_piece, piece_left}

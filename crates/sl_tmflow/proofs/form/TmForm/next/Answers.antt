@@ -1,6 +1,6 @@
-use Rattle.std.proofs.Common.{◌≡◌, ◌+◌, ◌<◌, ◌==◌, ◌++◌, ◌∙◌, ℕ, ◌≤◌, false, List, [], ◌∷◌, Some, ap, append-nil, arith, drop, eq-eqb, length, map, rules, ne_eqb, refl, slice_index_or, subst, sym, take, vec_len}
+use Rattle.std.proofs.Common.{◌≡◌, ◌+◌, ◌<◌, ◌==◌, ◌++◌, ◌∙◌, ℕ, ◌≤◌, false, [], ◌∷◌, Some, ap, append-nil, arith, drop, length, map, rules, ne_eqb, refl, slice_index_or, sym, take}
 use Rattle.std.proofs.lemmas.Bool.{eqb-false, eqb-true}
-use Rattle.std.proofs.lemmas.List.{length-map, nil_from_length}
+use Rattle.std.proofs.lemmas.List.{nil_from_length}
 use Rattle.std.specs.Vec.{vec_items}
 use Rattle.sl_packet.proofs.StoppingLemmas.{on_err}
 use Rattle.sl_tmframe.specs.PacketFrame.{field_room_of}

@@ -80,13 +80,9 @@ class Picture:
 
     def draw(self) -> str:
         parts, y = (self._heading(), 82) if self.heading else ([], 8)
-        drawn, end = self._rows(y)
-        parts += drawn + self._axis(end)
-        height = end + 28
-        if self.heading:
-            drawn, height = self._legend(end + 50)
-            parts += drawn
-        return self._document(parts, height)
+        rows, end = self._rows(y)
+        legend, height = self._legend(end + 50) if self.heading else ([], end + 28)
+        return self._document([*parts, *rows, *self._axis(end), *legend], height)
 
     def _rows(self, top: int) -> Tuple[List[str], int]:
         """The rows, coarser where they would be too many octets."""

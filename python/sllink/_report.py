@@ -52,11 +52,10 @@ class Recording:
 
 def report_of_one(kind: str, path: str, options: Sequence[str]) -> str:
     it = Recording(kind, path, options).surveyed()
-    parts = ["<header>", heading(1, it.name), read_as(it), "</header>",
-             verdict(said(it.survey, it.tally), it.asked, not it.survey.anomalies),
-             facts(facts_of(it)), heading(2, "Picture"), pictured(it, "rest")]
-    parts += tables(it, 2)
-    return page(f"{it.name}: {number_of(it.survey.frames, 'frame')}, {number_of(it.tally.packets(), 'packet')}", parts)
+    return page(f"{it.name}: {number_of(it.survey.frames, 'frame')}, {number_of(it.tally.packets(), 'packet')}", [
+        "<header>", heading(1, it.name), read_as(it), "</header>",
+        verdict(said(it.survey, it.tally), it.asked, not it.survey.anomalies), facts(facts_of(it)),
+        heading(2, "Picture"), pictured(it, "rest"), *tables(it, 2)])
 
 
 def report_of_two(kind: str, paths: Sequence[str], options: Sequence[Sequence[str]]) -> str:

@@ -158,9 +158,8 @@ class Child:
 
     def close(self) -> None:
         """Ends the program where it is."""
-        if self._child.returncode is None:
-            self._child.kill()
-            self._child.wait()
+        self._child.kill()
+        self._child.wait()
         self.output.close()
 
 

@@ -131,9 +131,9 @@ program_of() {
 }
 
 # refuses_options COMMAND..: a tool, with all its words but options: what it makes of wrong options, of a program that
-# isn't there, isn't sllink, or has a status or totals that aren't those of a run to the end, of an output that is full or
-# that nobody reads, of a signal while sllink runs, and its help. The first recording is also on the standard input, as a
-# path. All wrong values and all that isn't sllink are tried in python/tests.
+# isn't there, isn't sllink, or has a status or totals that aren't those of a run to the end, of an output that is full
+# or that nobody reads, of a signal while sllink runs, and its help. The first recording is also on the standard input,
+# as a path. All wrong values and all that isn't sllink are tried in python/tests.
 refuses_options() {
   local called=$1 options
   [ "$1" != python3 ] || called=${*:1:3}

@@ -4,8 +4,8 @@ paragraph, line of a listing and row of a table, with single spaces between its 
     python3 tests/lib/page.py < PAGE.html > TEXT
 
 Status: 0; 1 where the page isn't well formed, has a script or wants something from elsewhere, or lacks what its readers
-need: a language, a title, one heading, heads of tables with a scope, words for a picture. The last lines on the standard
-error say so.
+need: a language, a title, one heading, heads of tables with a scope, words for a picture. The last lines on the
+standard error say so.
 """
 
 import re

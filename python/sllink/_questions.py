@@ -1,5 +1,5 @@
-"""The questions about the options of a recording, which sllink-compare (docs/compare.md has the words with which
---allow answers them) and a page ask."""
+"""The questions about the options of a recording, which sllink-compare and a page ask. docs/compare.md has the word of
+each with which --allow answers it."""
 
 from typing import TYPE_CHECKING, Collection, Iterator, List, Sequence, Union
 

@@ -4,7 +4,7 @@ import re
 from collections import Counter
 from typing import Iterator, List, Optional, Sequence
 
-from .._signs import tc_channel, tc_field, tc_frame, tc_randomiser, unmasked
+from .._signs import tc_channel, tc_field, tc_randomiser, unmasked
 from .answer import Answer, RecordingFile, field_line, quoted, shell
 from .tc import uplink
 
@@ -40,11 +40,12 @@ def cltus(recording: RecordingFile, head: bytes) -> Optional[Answer]:
 
 
 def whole(unit: bytes) -> Iterator[bytes]:
-    """The whole frames of a CLTU, one after another; after them come fill octets."""
+    """The whole frames of a CLTU, one after another, as the command line takes them; after them come fill octets."""
     at = 0
-    while frame := tc_frame(unit, at):
-        yield frame
-        at += len(frame)
+    while at + 5 <= len(unit) and not unit[at] >> 6 and 5 <= (
+            length := ((unit[at + 2] & 3) << 8 | unit[at + 3]) + 1) <= len(unit) - at:
+        yield unit[at:at + length]
+        at += length
 
 
 def coded(recording: RecordingFile, frames: Sequence[bytes], lines: List[str], scid: int,

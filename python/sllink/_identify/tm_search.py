@@ -324,7 +324,7 @@ class TmSearch:
         there are none."""
         self.read(offset, (number + 1) * self.length)
         found = phases(self.block, self.length, self.keys).most_common(4)
-        for phase in self.pieces[-1][0] % self.length, *((offset + at) % self.length for at, _ in found):
+        for phase in [self.pieces[-1][0] % self.length, *((offset + at) % self.length for at, _ in found)]:
             places = range((phase - offset) % self.length, len(self.block) - self.length + 1, self.length)
             if sum(map(self.fits, places)) >= 0.55 * len(places):
                 frames = rows(self.block, self.length, places.start)

@@ -56,12 +56,15 @@ def _taken(name: str, value: Any) -> Any:
         if not isinstance(value, bool):
             raise TypeError
         return value
-    if name == "vr_of":
-        return {_integer(vc, CHANNELS): _integer(vr, NUMBERS["vr"]) for vc, vr in dict(value).items()}
-    if name == "plain":
-        if isinstance(value, (bytes, bytearray, Mapping)):
+    if name in ("vr_of", "plain"):
+        if isinstance(value, (str, bytes, bytearray)) or name == "plain" and isinstance(value, Mapping):
             raise TypeError
-        return tuple(_integer(vc, CHANNELS) for vc in value)
+        items = [*(dict(value).items() if hasattr(value, "keys") else value)]
+        taken: Any = tuple(_integer(vc, CHANNELS) for vc in items) if name == "plain" else {
+            _integer(vc, CHANNELS): _integer(vr, NUMBERS["vr"]) for vc, vr in items}
+        if len({*taken}) < len(items):                       # a channel comes twice
+            raise ValueError
+        return taken
     number = _integer(value, NUMBERS[name])
     if name == "window" and number % 2:
         raise ValueError

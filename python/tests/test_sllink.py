@@ -292,8 +292,8 @@ class TheOptions(InAFolder):
         for name, takes, *values in (
                 ("scid", "an integer from 0 to 1023", 99999, "1", "1_0", True), ("vr", "an integer from 0 to 255", 1.9),
                 ("window", "an even integer from 2 to 254", 9), ("tm_fecf", "True or False", "no"),
-                ("tc_fecf", "True or False", 1), ("plain", channels, 5, "5", b"5", {5: 6}),
-                ("vr_of", f"{channels}, each with its V(R) from 0 to 255", {0.5: 1}, None)):
+                ("tc_fecf", "True or False", 1), ("plain", channels, 5, "5", "", b"5", {5: 6}, [0, 0]),
+                ("vr_of", f"{channels}, each with its V(R) from 0 to 255", {0.5: 1}, None, "", [(0, 1), (0, 2)])):
             for value in values:
                 text = self.refused(2, "", sllink.Options, **{"scid": 1, name: value})
                 self.assertEqual(text, f"sllink: {name}={value!r}; {name} takes {takes}")

@@ -180,7 +180,6 @@ def tc_contradictions(octets: bytes, options: Options) -> Iterator[str]:
         other = most(found)
         if other is not None:
             yield from another(own, of(found, other), other, scid)
-            return
         plain = commands(octets, tc_randomiser())
         covered, plainly = (sum(len(it.frame) for it in some) for some in (found, plain))
         if most(plain) is not None and plainly > max(covered, len(octets) // 4):

@@ -13,6 +13,7 @@ ENOUGH = 5                                                # frames of a spacecra
 NEAR = 5                                                  # below which a count rises by little
 TRIED = 64                                                # other lengths that are tried
 SEARCHED = 1 << 14                                        # octets in which TC frames are searched for
+BETWEEN = "there are sync markers (1ACFFC1D) between its frames"
 
 
 def contradiction(kind: str, recording: str, words: Words) -> Optional[str]:
@@ -77,12 +78,14 @@ def tm_contradictions(octets: bytes, options: Options) -> Iterator[str]:
     length, scid = options.tm_length, options.scid
     headers = Headers(octets, length)
     if headers.has(scid, 0.6):
+        if 2 * sum(row.endswith(MARKER) for row in rows(octets, length, 0, headers.number)) > headers.number:
+            yield BETWEEN
         apart = divided(octets, length, scid)
     else:
         places = markers(octets)
         for distance, times in counter(there - here for here, there in zip(places, places[1:])).most_common(1):
             if times > 1 and 2 * (times + 1) * distance > len(octets) and distance >= SHORTEST + len(MARKER):
-                yield "there are sync markers (1ACFFC1D) between its frames"
+                yield BETWEEN
         if Headers(octets, length, randomiser()[:4]).other(-1) is not None:
             yield "its frames are randomised"
         other = headers.other(scid)

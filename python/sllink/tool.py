@@ -5,7 +5,6 @@ A tool's `main(words)` returns its status. It raises Refused with the reason whe
 
 import contextlib
 import errno
-import io
 import os
 import shlex
 import signal
@@ -219,9 +218,9 @@ def _streams(name: str) -> None:
     if sys.stdout is None:
         complain(name, f"output: {os.strerror(errno.EBADF)}")
         sys.exit(2)
-    if not isinstance(sys.stdout.buffer, io.BufferedWriter):
-        # as with PYTHONUNBUFFERED; then a write that takes a part of the octets would go for a whole one
-        sys.stdout = open(1, "w", encoding=sys.stdout.encoding, errors=sys.stdout.errors, closefd=False)
+    # with escapes for letters that its encoding lacks, and a buffer, also with PYTHONUNBUFFERED: else a write that takes
+    # a part of the octets would go for a whole one
+    sys.stdout = open(1, "w", encoding=sys.stdout.encoding, errors="backslashreplace", closefd=False)
 
 
 def _stop(*_: Any) -> NoReturn:

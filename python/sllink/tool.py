@@ -6,11 +6,13 @@ A tool's `main(words)` returns its status. It raises Refused with the reason whe
 import contextlib
 import errno
 import os
+import resource
 import shlex
 import signal
 import stat
 import subprocess
 import sys
+import time
 from collections import deque
 from typing import Any, Callable, Dict, Iterator, List, NoReturn, Optional, Tuple, Union
 
@@ -19,7 +21,11 @@ from ._fault import SllinkError, shown as shown              # pylint: disable=u
 from ._options import ASKS
 
 
-STOPS = (signal.SIGHUP, signal.SIGINT, signal.SIGTERM)
+# All that ends a process, but SIGKILL and faults of its own; two of them come of limits on processor time.
+STOPS = signal.valid_signals() - {
+    signal.SIGKILL, signal.SIGSTOP, signal.SIGTSTP, signal.SIGTTIN, signal.SIGTTOU, signal.SIGCONT, signal.SIGCHLD,
+    signal.SIGURG, signal.SIGWINCH, signal.SIGSEGV, signal.SIGBUS, signal.SIGFPE, signal.SIGILL}
+SPARE = 0.5                                               # seconds of processor time to end in, before SIGKILL
 
 
 class Refused(Exception):
@@ -156,7 +162,7 @@ def complain(name: str, text: str) -> None:
 
 
 class Stopped(SystemExit):
-    """A signal stops the tool."""
+    """A signal, its code, stops the tool."""
 
 
 def run(name: str, main: Callable[[List[str]], int], text: Optional[str]) -> NoReturn:
@@ -167,10 +173,15 @@ def run(name: str, main: Callable[[List[str]], int], text: Optional[str]) -> NoR
         for number in STOPS:
             if signal.getsignal(number) != signal.SIG_IGN:   # as nohup has it
                 signal.signal(number, _stop)
+        _, hard = resource.getrlimit(resource.RLIMIT_CPU)
+        if 0 <= hard < 1 << 31:                              # seconds, and then SIGKILL would come
+            signal.setitimer(signal.ITIMER_PROF, max(hard - SPARE - time.process_time(), SPARE / 10))
         status = _status(name, main, text or "")
         sys.stdout.flush()
-    except (OSError, Stopped):
+    except (OSError, Stopped) as why:
         status = 2
+        if isinstance(why, Stopped) and why.code in (signal.SIGPROF, signal.SIGXCPU):
+            complain(name, "there is not enough processor time")
         # what can't be written any more, or isn't wanted, isn't tried again as Python ends, which nothing breaks off
         for number in STOPS:
             signal.signal(number, signal.SIG_IGN)
@@ -223,9 +234,9 @@ def _streams(name: str) -> None:
     sys.stdout = open(1, "w", encoding=sys.stdout.encoding, errors="backslashreplace", closefd=False)
 
 
-def _stop(*_: Any) -> NoReturn:
+def _stop(which: int, _: Any) -> NoReturn:
     # a second signal mustn't break off what the first one ends. It isn't SIG_IGN yet: of a signal that has come already
     # Python would say that it is ignored
     for number in STOPS:
         signal.signal(number, lambda *_: None)
-    raise Stopped(2)
+    raise Stopped(which)

@@ -229,8 +229,8 @@ def _streams(name: str) -> None:
     if sys.stdout is None:
         complain(name, f"output: {os.strerror(errno.EBADF)}")
         sys.exit(2)
-    # with escapes for letters that its encoding lacks, and a buffer, also with PYTHONUNBUFFERED: else a write that takes
-    # a part of the octets would go for a whole one
+    # with escapes for letters that its encoding lacks, and a buffer, also with PYTHONUNBUFFERED: else a write that
+    # takes a part of the octets would go for a whole one
     sys.stdout = open(1, "w", encoding=sys.stdout.encoding, errors="backslashreplace", closefd=False)
 
 

@@ -63,7 +63,8 @@ def coded(recording: RecordingFile, frames: Sequence[bytes], lines: List[str], s
               "($r^254)==(254&ord substr $_[0],7)} "
               r'while(/\xeb\x90/g){$a=pos; $x=""; while(length($b=substr $_,$a,8)>7&&right($b)){$x.=substr $b,0,7; '
               '$a+=8} pos=$a; ' + unmask + "while(length $x>4&&64>ord $x){$n=1+(1023&unpack \"x2n\",$x); "
-              "last if $n<5||$n>length $x; print substr $x,0,$n; $x=substr $x,$n}}' < " + quoted(recording.name))
+              "last if $n<" + "57"[fecf is True] + "||$n>length $x; print substr $x,0,$n; $x=substr $x,$n}}' < "
+              + quoted(recording.name))
     return Answer("CLTUs: TC transfer frames in code blocks", lines, (), [shell(recording, words, source)], why)
 
 

@@ -21,6 +21,8 @@ def tc_answer(recording: RecordingFile, found: TcFrames) -> List[Answer]:
     if not frames or len(frames) > 2 and found.covered < 0.5 * found.pieces[-1][1]:
         return []
     fecf, right, why = tc_field(frames)
+    if fecf and not found.fecf and min(map(len, frames)) < 7:
+        return tc_answer(recording, TcFrames(recording, found.block, (found.scids, True)))
     scids = Counter(tc_channel(frame)[0] for frame in frames)
     main = [scid for scid, number in scids.most_common() if number >= max(2, 0.05 * len(frames))] or [
         scid for scid, _ in scids.most_common(1)]

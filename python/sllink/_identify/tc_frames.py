@@ -126,10 +126,15 @@ class TcFrames:
         return number != -1 and fits_unit(frame, 0) and (
             frame[0] & 0x30 > 0 or number is None or (frame[4] - number) & 255 < NEAR)
 
+    def frame(self, at: int, damaged: bool = False) -> bytes:
+        """The frame here, if it has room for its error control field: a shorter one ends the program's reading."""
+        frame = tc_frame(self.block, at, damaged)
+        return frame if len(frame) > 6 or not self.fecf else b""
+
     def some(self, at: int, most: int = 3) -> List[bytes]:
         """Up to three frames of these spacecraft that lie one after another here."""
         frames: List[bytes] = []
-        while len(frames) < most and (frame := tc_frame(self.block, at)) and tc_channel(frame)[0] in self.scids:
+        while len(frames) < most and (frame := self.frame(at)) and tc_channel(frame)[0] in self.scids:
             frames.append(frame)
             at += len(frame)
         return frames
@@ -148,7 +153,7 @@ class TcFrames:
         or to a frame that is doubtful where another begins within it that isn't. One whose header is damaged is among
         them where another one follows it, and none begins within it."""
         places: List[Place] = []
-        while len(self.numbered) + len(places) < MOST and (frame := tc_frame(self.block, at, True)):
+        while len(self.numbered) + len(places) < MOST and (frame := self.frame(at, True)):
             self.recording.look(at, 3)                       # here, for its field, and for its channel
             end, ours, channel = at + len(frame), bool(self.some(at, 1)), tc_channel(frame)
             if not ours and (not self.some(end, 1) or self.begin(at + 1, end) is not None):

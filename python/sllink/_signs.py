@@ -230,7 +230,8 @@ def by_control(frames: Frames) -> Tuple[Optional[bool], Optional[str]]:
     right = frames.checked()
     followed, broken = frames.follow[0, True], frames.follow[0, False]
     if mostly_right(right, frames.number):
-        return True, None
+        both = followed >= 2 and followed > broken + frames.follow[2, True]
+        return None if both else True, "the error control field is right, but packets go on without it" if both else None
     if not hardly_right(right, frames.number):
         return None, f"the error control field is right in {right} of {many(frames.number, 'frame')}, not in most"
     shifted, closed = frames.follow[2, True] + frames.closed[2], frames.closed[0]
@@ -332,6 +333,8 @@ def tc_field(frames: Sequence[bytes]) -> Tuple[Optional[bool], int, Optional[str
     """Whether TC frames have the error control field, as far as that is sure, and else why not."""
     right = right_fields(frames)
     if mostly_right(right, len(frames)):
+        if sum(fits_unit(frame, 0) - fits_unit(frame, 2) for frame in frames[:FOLLOWED]) > 1:
+            return None, right, "the error control field is right, but units are whole packets without it"
         return True, right, None
     if not hardly_right(right, len(frames), 0.03):
         return None, right, f"the error control field is right in {right} of {many(len(frames), 'frame')}, not in most"

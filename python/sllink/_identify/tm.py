@@ -8,7 +8,7 @@ from .._signs import (LONGEST, SHORTEST, Frames, by_control, inner, plain_eviden
                       strides)
 from .answer import (HEAD, WHOLE, Answer, RecordingFile, astray, field_line, frames_line, joined, listed,
                      piece_lines, quoted, shell)
-from .tm_search import ROWS, TmSearch, phases
+from .tm_search import ROWS, TmSearch, agreements, phases
 
 FIRST, TRIED = 256, 24                                    # lengths that are looked at first; that are tried
 COMPLETED = 3                                             # lengths of which further places are read
@@ -44,7 +44,7 @@ def shifted_tm(recording: RecordingFile, head: bytes, known: Sequence[Answer]) -
         block = head[place:place + HEAD // 8] or recording.read(place, HEAD // 8)
         found: List[Tuple[float, int, int]] = []
         for stride in range(SHORTEST, min(LONGEST, len(block) // (2 if known else 3)) + 1):
-            counts = Counter({at: rise for at, rise in phases(block, stride, None, 12).items() if not inside[at]})
+            counts = Counter(at % stride for at in agreements(block[:12 * stride], stride) if not inside[at])
             recording.look(place, stride // 20 + sum(counts.values()) // 16)
             number = min(12, len(block) // stride)
             found += [(rise / number, stride, at) for at, rise in counts.most_common(16 if known else 3)
@@ -129,7 +129,7 @@ def tm_answer(recording: RecordingFile, head: bytes, length: int, phase: int, fr
     if search.others:
         search = TmSearch(recording, head, length, phase, [*keys, *search.others], control, further)
     known = Frames(search.stretches, length)
-    if known.number == 0 or known.are_packets:
+    if known.number == 0 or known.are_packets or known.pairs and not known.rising()[0]:
         return None
     fecf, why = by_control(known)
     # also where the field seems right: it is so too after zeros that follow each frame
@@ -139,6 +139,11 @@ def tm_answer(recording: RecordingFile, head: bytes, length: int, phase: int, fr
         return trailed(recording, search, length, shorter)
     if fecf is False and not plain_evidence(known):
         why = f"too few headers agree, or too few counts rise: {known.rising()[0]} of {sum(known.pairs.values())}"
+    places = sum(end - begin for begin, end in search.pieces) // length
+    if fecf and not further and 2 * known.checked() < places:
+        why = f"the error control field is right in {known.checked()} of {places} frames, not in most"
+    if fecf is False and known.number < 4 * len(search.pieces) > 32:
+        why = f"frames shift too often for frames without error control: there are {len(search.pieces)} pieces"
     if fecf is False and not goes_on(known) and headers_within(head, length, search.pieces[0][0] % length):
         why = "headers of other frames lie within these, at equal distances"
     if fecf and known.checked() < 3 and recording.size % length:

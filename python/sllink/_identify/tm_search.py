@@ -92,10 +92,11 @@ class TmSearch:
 
     def units(self, length: int, fecf: Optional[bool]) -> Tuple[List[Piece], float]:
         """Where the first frames are, which may be shorter than the distance between them, and the share of them whose
-        error control field is right, where they have one."""
+        error control field is right, where they may have one."""
         units = list(islice(((at, at + length) for begin, end in self.pieces
                              for at in range(begin, min(end, len(self.head)), self.length)), COMPARED))
-        return units, right_fields(self.head[begin:end] for begin, end in units) / len(units) if fecf else 0
+        right = 0 if fecf is False else right_fields(self.head[begin:end] for begin, end in units)
+        return units, right / len(units) if fecf or right > 2 else 0
 
     def starts(self, at: int, number: int) -> range:
         """So many places of frames from here on, or as many as are whole."""
@@ -108,11 +109,11 @@ class TmSearch:
             return self.block[at] < 64 and not crc_hqx(self.block[at:at + self.length], 0xFFFF)
         return (self.block[at] << 4 | self.block[at + 1] >> 4) in self.keys
 
-    def goes_on(self, at: int) -> bool:
-        """Whether frames come after this one."""
+    def goes_on(self, at: int, two: bool = True) -> bool:
+        """Whether frames come after this one, two of the next three or one."""
         self.recording.look(self.base + at, 3 if self.fecf else 1)
         after = [self.fits(place, 0) for place in self.starts(at + self.length, 3)]
-        return sum(after) >= max(1, min(2, len(after)))
+        return sum(after) >= max(1, min(1 + two, len(after)))
 
     def first(self, at: int) -> Optional[int]:
         """The first place from here on at which frames lie one after another."""
@@ -121,7 +122,7 @@ class TmSearch:
             found = [start + it for it in agreements(self.block[start:start + 2 * step], self.length, self.keys)]
             self.recording.look(self.base + start, 1 + step // 128 + len(found) // 16)
             for place in found:
-                if place < start + step and self.fits(place) and self.goes_on(place):
+                if place < start + step and self.fits(place) and self.goes_on(place, not self.fecf):
                     place = place if self.fecf else self.likeliest(place, found)
                     while place - self.length >= at and self.before(place - self.length):
                         place -= self.length
@@ -205,7 +206,8 @@ class TmSearch:
     def scan(self, at: Optional[int] = None) -> List[Piece]:
         """The pieces of the block, of which the first one may be known to begin here."""
         pieces: List[Piece] = []
-        if at is None or at + self.length > len(self.block) or not (self.fits(at) and self.goes_on(at)):
+        if at is None or at + self.length > len(self.block) or not (
+                self.fits(at) and self.goes_on(at, not self.fecf)):
             at = self.first(0)
         if at and not self.base:
             pieces += self.few(max(0, at - NEAR * self.length), at) if self.fecf else self.early(at)

@@ -58,7 +58,7 @@ class RecordingFile:
 class Answer:
     """What the recording is: lines, and then commands that read it, or why there are none. The options, with the kind
     before them, are those with which the program reads it as it is. `places`: of its first frames, or other units;
-    `right`: the share of them whose error control field is right, where they have one; of packets end to end 1."""
+    `right`: the share of them whose error control field is right, where they may have one; of packets end to end 1."""
 
     what: str
     lines: List[str] = field(default_factory=list)
@@ -83,21 +83,38 @@ class Answer:
 
     @property
     def solid(self) -> bool:
-        """Whether error control shows nearly all of it, with fewer gaps than it would have within others, which have a
-        header at least in each 2048 octets."""
+        """Whether error control shows nearly all of it, and nothing seems to be around it."""
+        return self.right >= 0.98 and self.unbroken
+
+    @property
+    def unbroken(self) -> bool:
+        """Whether it has fewer gaps than it would have within others, which have a header at least in each 2048
+        octets."""
         gaps = sum(here[1] < there[0] for here, there in zip(self.places, self.places[1:]))
-        return self.right >= 0.98 and 2 * LONGEST * gaps < self.places[-1][1]
+        return 2 * LONGEST * gaps < self.places[-1][1]
+
+    @property
+    def led(self) -> bool:
+        """Whether lengths of TC frames lead from the first octet to the last one, which is no chance, sure or not."""
+        return self.what.startswith("TC") and self.weight >= 16 and self.covered >= TILED and self.unbroken
 
     def within(self, other: "Answer", least: int) -> bool:
         """Whether most of its units lie within those of another one, which are larger by so many octets. Those of TM
         frames that only headers show may be any number of frames."""
-        if not other.places or not other.right and (not other.sure or other.what.startswith("TM")):
+        if not other.places or not (other.right or other.led) and (not other.sure or other.what.startswith("TM")):
             return False
         begins, number = [begin for begin, _ in other.places], 0
         for begin, end in self.places:
             first, last = other.places[max(0, bisect(begins, begin) - 1)]
             number += first <= begin and end <= last and last - first >= end - begin + least
         return 2 * number > len(self.places)
+
+    def parted(self, packets: "Answer") -> bool:
+        """Whether a gap between its units is where each of these packets has its header, or after a unit that goes on
+        behind it."""
+        begins = [begin for begin, _ in self.places]
+        after = [bisect(begins, at + 5) for at, _ in packets.places if at + 5 < begins[-1]]
+        return len(after) > 1 and all(not at or self.places[at - 1][1] < begins[at] for at in after)
 
 
 def quoted(name: str) -> str:

@@ -34,11 +34,13 @@ def likeliest(recording: RecordingFile) -> Answer:
         answers += shifted_tm(recording, head, [it for it in answers if it.sure])
         if any(it.sure and it.right and not it.solid for it in answers):
             answers += shifted_tm(recording, head, [it for it in answers if it.sure])
-    if packets:
+    if packets and (packets.weight or any(it.sure and it.within(packets, 1) and it.parted(packets) for it in answers)):
         answers.append(packets)
     # what is found within other units, or is found once more, is none
     answers = [answer for at, answer in enumerate(answers) if not any(
         answer.within(other, int(place > at)) for place, other in enumerate(answers) if other is not answer)]
+    if any(it.led for it in answers):
+        answers = [it for it in answers if it.right or it.led]
     sure = [answer for answer in answers if answer.sure]
     if packets not in answers or packets and any(answer.weight > 20 * packets.weight for answer in sure):
         answers, packets = [it for it in answers if it is not packets], None

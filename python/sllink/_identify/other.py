@@ -35,7 +35,7 @@ def archive(recording: RecordingFile, head: bytes) -> Optional[Answer]:
 
 
 def space_packets(recording: RecordingFile, head: bytes) -> Optional[Answer]:
-    """Packets end to end from the beginning, without frames."""
+    """Packets end to end from the beginning, without frames. Where their counts don't rise they have no weight."""
     at = number = rising = 0
     counts: Dict[int, int] = {}
     places: List[Piece] = []
@@ -45,10 +45,12 @@ def space_packets(recording: RecordingFile, head: bytes) -> Optional[Answer]:
         counts[name] = count
         places.append((at, at + 7 + (head[at + 4] << 8 | head[at + 5])))
         at, number = places[-1][1], number + 1
+    rises = rising and rising >= 0.5 * (number - len(counts))
     ends = at == len(head) or number >= 1000 or at > len(head) and len(head) < recording.size
-    if number >= 4 and ends and rising and rising >= 0.5 * (number - len(counts)):
+    if number >= 4 and (ends and rises or number >= 1000 or at + 7 > len(head)):
         return Answer("space packets end to end, without frames", [f"packets {number}, from the beginning"],
-                      why="sllink reads transfer frames, and there are none", weight=2 * number, places=places, right=1)
+                      why="sllink reads transfer frames, and there are none", places=places,
+                      weight=2 * number if ends and rises else 0, right=1)
     return None
 
 

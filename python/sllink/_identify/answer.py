@@ -88,8 +88,7 @@ class Answer:
 
     @property
     def unbroken(self) -> bool:
-        """Whether it has fewer gaps than it would have within others, which have a header at least in each 2048
-        octets."""
+        """Whether it has fewer gaps than within others, which have a header at least in each 2048 octets."""
         gaps = sum(here[1] < there[0] for here, there in zip(self.places, self.places[1:]))
         return 2 * LONGEST * gaps < self.places[-1][1]
 
@@ -110,8 +109,7 @@ class Answer:
         return 2 * number > len(self.places)
 
     def parted(self, packets: "Answer") -> bool:
-        """Whether a gap between its units is where each of these packets has its header, or after a unit that goes on
-        behind it."""
+        """Whether each header of these packets, or the unit that it is in, is followed by a gap between units."""
         begins = [begin for begin, _ in self.places]
         after = [bisect(begins, at + 5) for at, _ in packets.places if at + 5 < begins[-1]]
         return len(after) > 1 and all(not at or self.places[at - 1][1] < begins[at] for at in after)

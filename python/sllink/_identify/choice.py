@@ -39,8 +39,7 @@ def likeliest(recording: RecordingFile) -> Answer:
     # what is found within other units, or is found once more, is none
     answers = [answer for at, answer in enumerate(answers) if not any(
         answer.within(other, int(place > at)) for place, other in enumerate(answers) if other is not answer)]
-    if any(it.led for it in answers):
-        answers = [it for it in answers if it.right or it.led]
+    answers = [it for it in answers if it.led or it.right] if any(it.led for it in answers) else answers
     sure = [answer for answer in answers if answer.sure]
     if packets not in answers or packets and any(answer.weight > 20 * packets.weight for answer in sure):
         answers, packets = [it for it in answers if it is not packets], None

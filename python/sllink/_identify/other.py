@@ -45,12 +45,11 @@ def space_packets(recording: RecordingFile, head: bytes) -> Optional[Answer]:
         counts[name] = count
         places.append((at, at + 7 + (head[at + 4] << 8 | head[at + 5])))
         at, number = places[-1][1], number + 1
-    rises = rising and rising >= 0.5 * (number - len(counts))
     ends = at == len(head) or number >= 1000 or at > len(head) and len(head) < recording.size
-    if number >= 4 and (ends and rises or number >= 1000 or at + 7 > len(head)):
+    if number >= 4 and (ends or at + 7 > len(head)):
         return Answer("space packets end to end, without frames", [f"packets {number}, from the beginning"],
                       why="sllink reads transfer frames, and there are none", places=places,
-                      weight=2 * number if ends and rises else 0, right=1)
+                      weight=2 * number * (ends and 0 < rising >= 0.5 * (number - len(counts))), right=1)
     return None
 
 

@@ -206,8 +206,7 @@ class TmSearch:
     def scan(self, at: Optional[int] = None) -> List[Piece]:
         """The pieces of the block, of which the first one may be known to begin here."""
         pieces: List[Piece] = []
-        if at is None or at + self.length > len(self.block) or not (
-                self.fits(at) and self.goes_on(at, not self.fecf)):
+        if at is None or not self.starts(at, 1) or not (self.fits(at) and self.goes_on(at, not self.fecf)):
             at = self.first(0)
         if at and not self.base:
             pieces += self.few(max(0, at - NEAR * self.length), at) if self.fecf else self.early(at)

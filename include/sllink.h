@@ -1,6 +1,8 @@
 /*
  * sllink for C: recordings in memory, FARM-1 on one virtual channel, headers, error control.
  *
+ *     cc PROGRAM.c $(pkg-config --cflags --libs sllink)
+ *
  * Each call does what one call of sllink's libraries does; docs/library.md says what is proved of
  * the calls. Nothing checks a program in C, so the caller has to uphold what follows.
  *
@@ -15,6 +17,7 @@
  *     that divides the size of the block.
  *   - No call is made from a signal handler, nor from the forked child of a process with threads.
  *   - There are 256 KiB of stack for a call over recordings, and 8 KiB for any other call.
+ *   - The processor is one of x86-64-v2. Any other may end the process within a call, by SIGILL.
  *
  * No call keeps a pointer, and the only state is what the caller keeps. So several threads may call
  * at the same time. A call that takes memory has given all of it back when the call returns. No

@@ -16,15 +16,15 @@
 #     make check
 #
 # PREFIX is where they are to be used, /usr/local where nothing is said. DESTDIR is put before each path, for whoever
-# makes a package. `make dist` writes out/sllink-VERSION-linux-ARCHITECTURE.tar.gz, whose folders bin and share work
-# wherever they lie beside each other; `make deb` writes out/sllink_VERSION_ARCHITECTURE.deb, and wants dpkg-deb. `make
-# wheel` writes out/sllink-VERSION-py3-none-any.whl, the Python module alone, which is in the archive too. Each writes
-# out/SHA256SUMS, of all packages that are there. The program isn't built here: that is done by `rt run` in
-# crates/sllink. The manual pages of the tools and the completions are made into PAGES, which is out where nothing is
-# said, by python3 from what the program and the tools print with --help: by `make` alone, and before they are installed
-# or packed. `make lib` proves and builds libsllink.a and libsllink.so in LIBRARIES, which is out where nothing is said,
-# and wants the kit, cc, ld, objcopy and ar. Where they are there, they are installed and packed with the program, with
-# their header and what pkg-config reads.
+# makes a package. `make dist` writes out/sllink-VERSION-linux-ARCHITECTURE.tar.gz, whose folders work wherever they
+# lie beside each other; `make deb` writes out/sllink_VERSION_ARCHITECTURE.deb, and wants dpkg-deb. `make wheel` writes
+# out/sllink-VERSION-py3-none-any.whl, the Python module alone, which is in the archive too. Each writes out/SHA256SUMS,
+# of all packages that are there. The program isn't built here: that is done by `rt run` in crates/sllink. The manual
+# pages of the tools and the completions are made into PAGES, which is out where nothing is said, by python3 from what
+# the program and the tools print with --help: by `make` alone, and before they are installed or packed. `make
+# lib` proves and builds libsllink.a and libsllink.so in LIBRARIES, which is out where nothing is said, and wants the
+# kit, cc, ld, objcopy and ar. Where they are there, they are installed and packed with the program, with their header
+# and what pkg-config reads.
 
 PREFIX = /usr/local
 DESTDIR =
@@ -135,13 +135,15 @@ dist: built
 	$(MAKE) -s install PREFIX= DESTDIR="$(OUT)/$(PACKED)"
 	python/wheel "$(OUT)/$(PACKED)" > /dev/null
 	cp CHANGELOG.md "$(OUT)/$(PACKED)"
-	printf '%s\n' "sllink, its tools, manual pages, completions and Python module. This folder may lie anywhere; bin and" \
-	  "share in it have to stay beside each other. The tools need Python 3.8 or later. With D for the folder's path:" "" \
+	printf '%s\n' "sllink, its tools, manual pages, completions and Python module. This folder may lie anywhere; the" \
+	  "folders in it have to stay beside each other. The program needs glibc $(LIBC) or later, program and library a" \
+	  "processor of x86-64-v2, the tools Python 3.8 or later. With D for the folder's path:" "" \
 	  '    export PATH=D/bin:$$PATH                                     program, tools, manual pages' \
 	  '    export XDG_DATA_DIRS=D/share:/usr/local/share:/usr/share    completions for bash and fish' \
 	  '    fpath=(D/share/zsh/site-functions $$fpath)                   those for zsh, before compinit' \
 	  '    export PYTHONPATH=D/share/sllink/python                     the module, where pip has not installed the wheel' \
-	  '    export PKG_CONFIG_PATH=D/lib/pkgconfig LD_LIBRARY_PATH=D/lib    the library for C, where lib is there' "" \
+	  '    export PKG_CONFIG_PATH=D/lib/pkgconfig LD_LIBRARY_PATH=D/lib    the library for C, where lib is there' \
+	  '    export SLLINK_LIBRARY=D/lib/libsllink.so                    the same, where pip has installed the wheel' "" \
 	  "CHANGELOG.md says what changed. No licence has been chosen for sllink yet. Ask whoever gave you this archive" \
 	  "what you may do with it." > "$(OUT)/$(PACKED)/README"
 	tar -C "$(OUT)" --sort=name --mtime="@$(SOURCE_DATE_EPOCH)" --mode=u=rwX,go=rX --owner=0 --group=0 --numeric-owner \

@@ -19,7 +19,7 @@ try:
 except OSError:
     LIBRARY = None
 # Options at the edges of what the program takes. It is too short a limit that the program then refuses.
-EDGES = [{}, {"limit": 9}, {"limit": 100}, {"limit": 351}, {"limit": 352}, {"plain": [63, 0, 63]},
+EDGES = [{}, {"limit": 9}, {"limit": 100}, {"limit": 351}, {"limit": 352}, {"plain": [63, 0]},
          *({name: value} for name, (taken, _) in test_sllink.EDGES.items() for value in taken)]
 
 

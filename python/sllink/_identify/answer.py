@@ -70,6 +70,7 @@ class Answer:
     places: Sequence[Piece] = ()
     right: float = 0
     again: Optional[Tuple[int, int, Frames]] = None       # how a large recording is looked at again
+    pieces: Sequence[Piece] = ()                          # in which its frames lie one after another
 
     @property
     def sure(self) -> bool:

@@ -1,14 +1,15 @@
 """What a recording is, of all that it may seem."""
 
-from typing import List
+from typing import List, Sequence
 
-from .._signs import LONGEST, SHORTEST, right_fields, rows, tc_frame
+from .._signs import LONGEST, SHORTEST, Frames, right_fields, rows, tc_frame
 from .answer import HEAD, TILED, WHOLE, Answer, RecordingFile
+from .around import around
 from .cadu import cadus
 from .cltu import cltus
 from .other import archive, other_frames, space_packets
 from .tc import tc
-from .tm import shifted_tm, tm
+from .tm import answers_for, shifted_tm, tm
 
 
 def likeliest(recording: RecordingFile) -> Answer:
@@ -36,6 +37,8 @@ def likeliest(recording: RecordingFile) -> Answer:
             answers += shifted_tm(recording, head, [it for it in answers if it.sure])
     if packets and (packets.weight or any(it.sure and it.within(packets, 1) and it.parted(packets) for it in answers)):
         answers.append(packets)
+    for answer in [it for it in answers if it.sure and not it.whole]:
+        answers += outer_tm(recording, head, answer, answers)
     # what is found within other units, or is found once more, is none
     answers = [answer for at, answer in enumerate(answers) if not any(
         answer.within(other, int(place > at)) for place, other in enumerate(answers) if other is not answer)]
@@ -57,6 +60,19 @@ def likeliest(recording: RecordingFile) -> Answer:
     if len(sure) > 1:
         best.why = "more than one reading fits: " + "; ".join(answer.what for answer in sure)
     return best
+
+
+def outer_tm(recording: RecordingFile, head: bytes, inner: Answer, known: Sequence[Answer]) -> List[Answer]:
+    """What the recording is as TM frames around those of this answer, which then can't be sure."""
+    found = around(recording, head, inner)
+    if not found:
+        return []
+    length, begins = found
+    inner.why = (f"around these are TM frames of {length} octets, of which {len(begins)} have a right error control "
+                 "field")
+    frames = Frames([[head[begin:begin + length] for begin in begins]], length, True)
+    return [it for it in answers_for(recording, head, [(False, length, begins[0] % length, frames)])
+            if not any(other.sure and other.what == it.what for other in known)]
 
 
 def framed(head: bytes) -> bool:

@@ -49,7 +49,7 @@ def tc_answer(recording: RecordingFile, found: TcFrames) -> List[Answer]:
         lines.append(f"no such frames at {end}")
     return [Answer("TC transfer frames", lines, words if source is None else (), [shell(recording, words, source)],
                    why or astray(found.pieces), right * 3 if fecf else 2 * len(frames), found.covered / found.end,
-                   found.units, right / len(frames) if fecf or found.fecf else 0)]
+                   found.units, right / len(frames) if fecf or found.fecf else 0, None, found.pieces)]
 
 
 def uplink(numbered: Iterable[Numbered], scid: int, fecf: Optional[bool]) -> Tuple[List[str], List[str]]:

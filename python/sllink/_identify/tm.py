@@ -158,7 +158,7 @@ def tm_answer(recording: RecordingFile, head: bytes, length: int, phase: int, fr
     return Answer(f"TM transfer frames of {length} octets", lines,
                   tm_command(known.main[0], length, fecf) if source is None else (),
                   () if why else tm_commands(recording, known, fecf, source), why, weight, search.covered(),
-                  *search.units(length, fecf), (length, phase, frames))
+                  *search.units(length, fecf), (length, phase, frames), search.pieces)
 
 
 def trailed(recording: RecordingFile, search: TmSearch, stride: int, length: int) -> Optional[Answer]:

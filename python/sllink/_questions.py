@@ -8,7 +8,7 @@ from ._contradiction import contradiction
 from .tool import command_of, identified, shown
 
 if TYPE_CHECKING:
-    from ._compare.command import Checked
+    from ._commands.compare import Checked
     from ._survey import Survey
     Read = Union[Checked, Survey]                         # a recording as it was read, and its totals
 

@@ -20,7 +20,6 @@ from . import __version__
 from ._fault import SllinkError, shown as shown              # pylint: disable=useless-import-alias
 from ._options import ASKS
 
-
 # All that ends a process, but SIGKILL and faults of its own; two of them come of limits on processor time.
 STOPS = signal.valid_signals() - {
     signal.SIGKILL, signal.SIGSTOP, signal.SIGTSTP, signal.SIGTTIN, signal.SIGTTOU, signal.SIGCONT, signal.SIGCHLD,
@@ -148,11 +147,6 @@ def own_options(name: str, texts: List[str]) -> List[str]:
     for asked in filter(ASKS, words):
         raise Refused(f"{name}: {asked} is no option for a recording")
     return words
-
-
-def write(octets: bytes) -> None:
-    """Writes octets to the standard output, which has a buffer."""
-    sys.stdout.buffer.write(octets)
 
 
 def complain(name: str, text: str) -> None:

@@ -74,8 +74,7 @@ def written(verb, kind, recording, options):
 
 def ran(tool_name, *words):
     """Status and output of a tool."""
-    command = [sys.executable, "-B", ROOT / "tools" / tool_name, *words]
-    done = subprocess.run(command, stdout=subprocess.PIPE, check=False)
+    done = subprocess.run([ROOT / "tools" / tool_name, *words], stdout=subprocess.PIPE, check=False)
     return done.returncode, os.fsdecode(done.stdout)
 
 

@@ -39,10 +39,11 @@ Example: the packets of a recording, with the options that are found:
 """
 
 import os
+import sys
 from typing import List
 
-from ..tool import Refused, reason_of, require_name, shown, write
-from . import identify
+from .._identify import identify
+from ..tool import Refused, reason_of, require_name, shown
 
 NAME = "sllink-identify"
 
@@ -61,8 +62,8 @@ def main(words: List[str]) -> int:
     except OSError as error:
         raise Refused(f"{shown(names[0])}: {reason_of(error)}") from None
     if "--options" not in words[:end]:
-        write(os.fsencode(f"{shown(names[0])}: {found}\n"))
+        sys.stdout.buffer.write(os.fsencode(f"{shown(names[0])}: {found}\n"))
         return 0 if found.why is None else 1
     if found.words:
-        write(os.fsencode(" ".join(found.words) + "\n"))
+        sys.stdout.buffer.write(os.fsencode(" ".join(found.words) + "\n"))
     return 0 if found.words else 1

@@ -10,14 +10,16 @@ segments. Another station that saw the same pass has the same words but for --st
 """
 
 import argparse
+import os
 import random
 import sys
-from functools import lru_cache, partial
+from functools import partial
 
 import recordings
 
-MARKER = b"\x1a\xcf\xfc\x1d"
-TAPS = {"tm": (1, 3, 5, 8), "tc": (2, 4, 5, 6, 7, 8)}     # of the randomisers
+sys.path.insert(0, f"{os.path.dirname(os.path.realpath(__file__))}/../../python")
+from sllink._signs import MARKER, randomiser, tc_randomiser, unmasked
+
 # Each word with its value where it is left out.
 WORDS = (
     ("frames", 150, "how many frames"),
@@ -36,20 +38,6 @@ WORDS = (
     ("randomised", False, "each frame is randomised, as for the link"),
     ("marked", False, "each frame comes after a sync marker"),
 )
-
-
-@lru_cache
-def sequence(kind, octets=2048):
-    """The first octets of the sequence that randomises frames."""
-    bits = [1] * 8
-    while len(bits) < 8 * octets:
-        bits.append(sum(bits[-tap] for tap in TAPS[kind]) % 2)
-    return bytes(int("".join(map(str, bits[at:at + 8])), 2) for at in range(0, 8 * octets, 8))
-
-
-def mixed(octets, kind):
-    """A frame, randomised or not so any more."""
-    return bytes(octet ^ other for octet, other in zip(octets, sequence(kind)))
 
 
 def downlink(words):
@@ -122,9 +110,9 @@ def recorded(line=None):
         way = {"action": "store_true"} if value is False else {"type": type(value), "default": value}
         parser.add_argument(f"--{name}", help=what, **way)
     words = parser.parse_args(line)
-    for frame in received(downlink(words) if words.kind == "tm" else uplink(words), words):
-        frame = mixed(frame, words.kind) if words.randomised else frame
-        yield MARKER + frame if words.marked else frame
+    frames, mask = (downlink, randomiser()) if words.kind == "tm" else (uplink, tc_randomiser())
+    for frame in received(frames(words), words):
+        yield MARKER * words.marked + unmasked(frame, mask * words.randomised)
 
 
 if __name__ == "__main__":

@@ -133,9 +133,10 @@ def tm_answer(recording: RecordingFile, head: bytes, length: int, phase: int, fr
         return None
     fecf, why = by_control(known)
     # also where the field seems right: it is so too after zeros that follow each frame
-    some = max(search.stretches, key=len)
+    some = [frame for stretch in sorted(search.stretches, key=len, reverse=True) for frame in stretch]
     shorter = inner(some)
-    if shorter and shorter < length and not (fecf and any(frame[shorter:].strip(b"\0") for frame in some)):
+    if shorter and shorter < length and not (
+            fecf and any(frame[shorter:].strip(b"\0") and not crc_hqx(frame, 0xFFFF) for frame in some)):
         return trailed(recording, search, length, shorter)
     if fecf is False and not plain_evidence(known):
         why = f"too few headers agree, or too few counts rise: {known.rising()[0]} of {sum(known.pairs.values())}"

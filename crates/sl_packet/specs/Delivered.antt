@@ -14,7 +14,7 @@ pub record PacketLists : Type 0 where
   pub lists : List (List (List ℕ))
   -- the count of refused packets
   pub failures : ℕ
-  -- for how many lists there is memory
+  -- for how many lists there is memory; only the clause of a new store speaks of it
   pub capacity : ℕ
 
 -- the packets of a channel

@@ -16,7 +16,8 @@ abbrev pub packet_lists_of : Inside → PacketLists
 packet_lists_of d =
     record { lists = with_empty_lists (kept_lists d); failures = d.failures; capacity = vec_capacity d.lists }
 
--- what holds of each store: no list is beyond channel 4095, and each packet may be delivered
+-- what holds of each store, its invariant: no list is beyond channel 4095, and each packet may be
+-- delivered
 pub record IsDelivered (d : Inside) : Type 0 where
   pub fit : length (kept_lists d) ≤ channel_count
   pub deliverable : AllByRecursion (AllByRecursion IsDeliverable) (kept_lists d)

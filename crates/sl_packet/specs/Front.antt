@@ -5,7 +5,8 @@ use Rattle.sl_fields.specs.Field.{IsOctets}
 use Rattle.sl_packet.specs.Packet.{version_of, stated_packet_len, IsPacket}
 
 pub data Front : Type 0 where
-  -- a foreign front: the first octet has another version than 0
+  -- a foreign front: the first octet has another version than 0 (the name `Foreign` is that of a
+  -- case of `Need`)
   OtherVersion : Front
   -- an incomplete front: no whole packet is here, but further octets can make one
   Incomplete : Front

@@ -1,6 +1,6 @@
 -- The idle packet that is written as fill. Its version, its APID and its length are those of an
 -- idle packet, CCSDS 133.0-B. Its packet type, sequence flags, sequence count and data are this
--- project's choice (mission profile).
+-- project's choice.
 use Rattle.std.specs.Prelude.{◌≡◌, ℕ, ◌-◌, ◌≤◌, true, List, [], ◌∷◌, ◌++◌, length, replicate}
 use Rattle.sl_fields.specs.Field.{octets_of}
 use Rattle.sl_packet.specs.Packet.{IsPacket, is_idle_packet, longest_packet}

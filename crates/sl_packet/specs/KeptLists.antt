@@ -5,7 +5,7 @@ use Rattle.std.specs.Vec.{vec_items}
 use Rattle.std.specs.declared.vec.Vec.{Vec}
 use Rattle.sl_packet.specs.Delivered.{channel_count, empty_lists}
 
--- the lists that vectors stand for
+-- the lists that vectors stand for, whatever their allocators X, Y and Z are
 abbrev pub lists_in : {X Y Z : Type 0} → Vec (Vec (Vec ℕ X) Y) Z → List (List (List ℕ))
 lists_in lists = map (λ list. map vec_items (vec_items list)) (vec_items lists)
 

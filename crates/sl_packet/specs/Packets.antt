@@ -27,8 +27,8 @@ whole_at OtherVersion octets = []
 whole_at Incomplete octets = []
 whole_at (WholePacket len) octets = take len octets ∷ []
 
--- How many octets after the first one are passed over: the rest of the packet or, where none begins,
--- all of them. For all of them `length octets - 1` would do, and `length octets` passes over as many.
+-- How many octets after the first one of these octets belong to the packet that begins with it. Where
+-- none begins, a number that is greater than that of all octets after the first one.
 abbrev pub octets_passed : Front → List ℕ → ℕ
 octets_passed OtherVersion octets = length octets
 octets_passed Incomplete octets = length octets

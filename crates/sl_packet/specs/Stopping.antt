@@ -1,6 +1,7 @@
 -- How a list of packets is handed over to a sink: the whole list, or the first packets of the list
--- where the handing over stops with a `FlowFault`. The contracts of the crates that take packets
--- out of frames cite these definitions. No contract of this crate does.
+-- where the handing over stops with a `FlowFault`. The contracts of `sl_tmflow` and `sl_tcflow` cite
+-- these definitions. They stand here since both crates build on this one. No contract of this crate
+-- cites them; that of `hand_over` has a `SinkFault`, and states itself what is handed over.
 use Rattle.std.specs.Prelude.{◌≡◌, ℕ, List, ◌++◌, length, Result, OnOk, IfOk, IfErr}
 use Rattle.sl_packet.specs.Packets.{only_idle, without_idle}
 use Rattle.sl_packet.specs.Sink.{TakesAll, StopsTaking, one_more}
@@ -9,7 +10,8 @@ use Rattle.sl_packet.specs.declared.flow_fault.FlowFault.TheVariants.{Memory, Si
 use Rattle.sl_packet.specs.declared.sink.SinkFault.{SinkFault}
 
 -- The sink's count of refused packets after a fault: one more where the sink refused a packet,
--- unless the count was at its greatest, and the same as before otherwise.
+-- unless the count was at its greatest, and the same as before otherwise. A call that returns `Failed`
+-- has handed over nothing, so the count stays.
 abbrev pub CountsFault : {S : Type 0} → (S → ℕ) → S → FlowFault → S → Type 0
 CountsFault failures old Memory new = failures new ≡ failures old
 CountsFault failures old (Sink fault) new = failures new ≡ one_more (failures old)
@@ -26,18 +28,18 @@ module _ {S : Type 0} (taking : S → ℕ → List ℕ → S → Type 0) where
   module _ (failing : S → ℕ → List ℕ → SinkFault → S → Type 0) (failures : S → ℕ) where
     -- The handing over stopped with a fault. Where memory was refused, the sink accepted the first
     -- packets of the list and refused none. Where the sink refused a packet, it accepted the
-    -- packets before this one. No handing over stops with `Failed`, since a call that returns
-    -- `Failed` hands over nothing.
+    -- packets before this one. `Failed` isn't among its faults: no handing over stops with it, since
+    -- a call that returns `Failed` hands over nothing.
     abbrev pub IsStopped : S → ℕ → List (List ℕ) → FlowFault → S → Type 0
     IsStopped old channel packets Memory new = TakesSome old channel packets new × (failures new ≡ failures old)
     IsStopped old channel packets (Sink fault) new =
         StopsTaking taking failing old channel packets fault new × (failures new ≡ one_more (failures old))
     IsStopped old channel packets Failed new = ⊥
 
-    -- What a step hands over of the packets that end in the step (`ended`, with the idle ones). On
-    -- Ok the step has handed over those that aren't idle, in order, and has counted both kinds
-    -- (`counts`). At a fault `IsStopped` says how far the step came. Only contracts of private
-    -- functions cite this record.
+    -- What a step, the processing of one frame, hands over of the packets that end in the step
+    -- (`ended`, with the idle ones). On Ok the step has handed over those that aren't idle, in order,
+    -- and has counted both kinds: `counts` gives the two numbers of what the step returns. At a fault
+    -- `IsStopped` says how far the step came. Only contracts of private functions cite this record.
     pub record HandsOver {X : Type 0} (counts : X → ℕ × ℕ) (old : S) (channel : ℕ) (ended : List (List ℕ))
         (result : Result X FlowFault) (new : S) : Type 0 where
       pub accepted : OnOk result (TakesAll taking old channel (without_idle ended) new)

@@ -21,7 +21,7 @@ pub struct Delivered {
     alloc: Global,
     // The packets of each channel, from channel 0 on. A channel beyond the last list has none.
     lists: Vec<Vec<Vec<u8>>>,
-    // The count of refused packets. Clauses speak of this count, and no call reports it.
+    // The count of refused packets, which `PacketSink` wants. No call reports it.
     failures: u64,
 }
 
@@ -34,13 +34,13 @@ impl Model for Delivered {
 
     ghost view = { packet_lists_of };
 
-    // `IsDelivered` holds of every store. `IsDeliverable` is a property of one packet.
+    // What holds of every store. `IsDeliverable`, in clauses below, is a property of one packet.
     ghost invariant = { IsDelivered };
 }
 
 impl Delivered {
-    /// A store without a packet on any channel. It holds no memory yet. Later it is refused memory
-    /// only where it is handed a packet.
+    /// A store without a packet on any channel. It holds no memory yet; only a packet that it is
+    /// handed makes it take some.
     pub fn new(alloc: Global) -> Delivered
         ensures lists { result.lists ≡ empty_lists }
         ensures failures { result.failures ≡ 0 }
@@ -60,8 +60,8 @@ impl Delivered {
         ensures packets { map vec_items result.now ≡ list_at self.now channel }
         ensures none_above { 4095 < channel → list_at self.now channel ≡ [] }
 
-        // Each store stands for 4,096 lists, also where it keeps fewer. Each packet in the lists is
-        // whole and isn't idle.
+        // What holds of every store, for callers: it stands for 4,096 lists, also where it keeps
+        // fewer, and each packet in the lists is whole and isn't idle.
         ensures channels { length self.now.lists ≡ channel_count }
         ensures deliverable { AllByRecursion IsDeliverable (list_at self.now channel) }
         ensures each_deliverable { AllByRecursion (AllByRecursion IsDeliverable) self.now.lists }
@@ -109,6 +109,9 @@ impl Delivered {
     }
 }
 
+// The members of `PacketSink`: how the store changes where it accepts a packet and where it refuses
+// one, and its count of refused packets. Whoever hands over a packet sees to it that its channel is
+// at most 4095, that it is whole and that it isn't idle.
 impl PacketSink for Delivered {
     ghost use Rattle.sl_packet.specs.declared.sink.SinkFault.TheVariants.{Memory};
 

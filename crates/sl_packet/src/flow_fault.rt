@@ -4,7 +4,8 @@ use crate::sink::SinkFault;
 use thiserror::Error;
 
 /// Why a call that takes packets out of transfer frames and hands them to a sink stopped. Calls of
-/// `sl_tmflow` and `sl_tcflow` return this fault; no call of this crate does.
+/// `sl_tmflow` and `sl_tcflow` return this fault, and so both have one from here; no call of this
+/// crate returns it.
 #[derive(Clone, Copy, Debug, PartialEq, Eq, Error)]
 pub enum FlowFault {
     /// The call itself was refused memory, and the sink refused no packet. Where the sink was

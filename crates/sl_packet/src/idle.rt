@@ -49,7 +49,7 @@ pub fn push_idle(out: &mut Vec<u8>, len: u32) -> Result<(), AllocError>
     out.resize(end, 0)
 }
 
-// The header of an idle packet with this packet data length.
+// The header of an idle packet with this packet data length, which is 7 less than its octets.
 fn idle_header(length: u16) -> [u8; 6]
     ensures { result ≡ octets_of 6 (idle_fields (length + 7)) }
 {

@@ -31,9 +31,9 @@ pub fn fronts_tell_packets()
     ensures incomplete { IncompleteMayBecomeWhole }
 {}
 
-/// The need of octets agrees with their front: the need is foreign or whole exactly where the front
-/// is. The number of `Header` is how many octets complete the header. The number of `Octets` is how
-/// many octets complete the packet, whatever their values are.
+/// What octets need ([`Need`](crate::Need)) agrees with their front: the need is foreign or whole
+/// exactly where the front is. The number in `Need::Header` is how many octets complete the header.
+/// That in `Need::Octets` is how many complete the packet, whatever their values are.
 pub fn needs_tell_packets()
     ensures foreign { ForeignIsForeign }
     ensures whole { WholeIsWhole }

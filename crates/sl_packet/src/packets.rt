@@ -47,8 +47,8 @@ impl<'a> Iterator for Packets<'a> {
     // What a call of `next` yields, and which octets are left then.
     ghost next_gives = { GivesPacket };
 
-    // From here on the iterator yields at most as many packets as lie at the front of the octets
-    // that are left.
+    // A bound, as each iterator has one: it yields no more packets than lie at the front of the
+    // octets that are left. That it yields all of these is said by `GivesPacket`.
     ghost remaining = { item_count packets_of };
 
     /// The packet at the front of the octets that are left. `None` exactly where no whole packet is

@@ -1,4 +1,5 @@
-//! What octets lack for a whole packet.
+//! What octets that are a part of a packet lack. The function that answers it, `need`, stands in
+//! `packet.rt`: a module can't have two names that differ in case alone.
 
 /// What octets lack for a whole space packet (CCSDS 133.0-B) at their front.
 #[derive(Clone, Copy, Debug, PartialEq, Eq)]

@@ -1,4 +1,5 @@
-//! Packets and service data units that come in parts, and the memory that they take.
+//! Packets and service data units that come in parts, and the memory that they take. A service data
+//! unit is what TC frames carry as a whole: one packet or several.
 ghost use Rattle.std.specs.Prelude.{◌≡◌, ◌+◌, ◌≤◌, ◌<◌, ◌++◌, [], length, OnOk, OnErr};
 ghost use Rattle.std.specs.Vec.{vec_capacity, vec_len};
 ghost use Rattle.sl_packet.specs.Packet.{longest_packet};
@@ -6,7 +7,8 @@ ghost use Rattle.sl_packet.specs.Packet.{longest_packet};
 use std::alloc::AllocError;
 
 /// The length of the longest packet in octets: 6 of its header and 65,536 of its data. Service data
-/// units that are put together have the same bound, by this project's choice.
+/// units that are put together have the same bound, by this project's choice. Public clauses have
+/// the number itself, and private ones `longest_packet`.
 pub const LONGEST_PACKET: usize = 65542;
 
 /// Adds a part of a packet or of a service data unit to the octets so far. The caller sees to it
@@ -14,8 +16,8 @@ pub const LONGEST_PACKET: usize = 65542;
 /// longest packet.
 ///
 /// Memory is refused only where the capacity has no room for the part, and then nothing is added.
-/// How the capacity grows is known from reading the code, not from a clause: it becomes twice what
-/// it was, or what is needed where this is more, and 65,542 at most.
+/// How the capacity grows is known from reading the code, not from a clause of this call: it becomes
+/// twice what it was, or what is needed where this is more, and 65,542 at most.
 #[inline(always)]
 pub fn add_part(octets: &mut Vec<u8>, part: &[u8]) -> Result<(), AllocError>
     requires { vec_len octets.old + length part.now ≤ 65542 }
@@ -33,8 +35,9 @@ pub fn add_part(octets: &mut Vec<u8>, part: &[u8]) -> Result<(), AllocError>
     octets.extend_from_slice(part)
 }
 
-// Makes room for `more` octets where there is none. The octets stay, and the capacity becomes no
-// greater than that of the longest packet.
+// Makes room for `more` octets where there is none. The octets stay, and the capacity becomes
+// 65,542 octets at most. Cold, as `give_back` is: both are rare, and `add_part` is inlined without
+// them.
 #[cold]
 fn grow(octets: &mut Vec<u8>, more: usize) -> Result<(), AllocError>
     requires full { vec_capacity octets.old < vec_len octets.old + more }

@@ -40,7 +40,8 @@ pub trait PacketSink {
     /// packet, the fault and the sink after.
     ghost failing: { Self → ℕ → List ℕ → SinkFault → Self → Type 0 };
 
-    /// The count of refused packets, which stops at 2^64 - 1.
+    /// The count of refused packets, which stops at 2^64 - 1. By it the contract of a caller can
+    /// say whether the sink refused a packet.
     ghost failures: { Self → ℕ };
 
     /// Hands over one packet on the channel `channel`, 0 to 4095. `p` is a whole packet, 7 to
@@ -104,6 +105,7 @@ pub fn hand_over<'a, S: PacketSink>(
         sink.old channel (without_idle (packets_of octets.now)) fault sink.new) }
     ensures counted { OnErr result (S.failures sink.new ≡ one_more (S.failures sink.old)) }
 {
+    // What is left stands in the value that is returned. The loop does what `Packets::next` does.
     let mut handed = HandedOver {
         packets: 0,
         idle: 0,

@@ -1,7 +1,9 @@
 -- Anomalies of the segments that FARM-1 accepts, CCSDS 232.0-B: a segment is out of sequence, an
 -- incomplete series is dropped or given up, or octets are left after the last whole packet of a
 -- service data unit. Two things are the project's own choices (mission profile): the greatest
--- length of a service data unit, and that the octets after its last whole packet are dropped.
+-- length of a service data unit, and that the octets after its last whole packet are dropped. Names
+-- with `_of` take the segments of a MAP and the next one, and those with `_by` the parameters, the
+-- frames before and the next one.
 use Rattle.std.specs.Prelude.{◌≡◌, ◌⊎◌, ℕ, ◌+◌, ◌<◌, ◌≤◌, ◌==◌, ◌&&◌, nat_le, Bool, true, false, if◌then◌else◌, List, [], ◌∷◌, ◌++◌, length, flat_map, Option, None, Some, is_none, option_map, unwrap_or}
 use Rattle.std.specs.List.{filter}
 use Rattle.sl_packet.specs.Packet.{longest_packet}
@@ -82,8 +84,8 @@ pub record IsLong (list : List (List ℕ)) (next : List ℕ) : Type 0 where
   pub incomplete : IsIncomplete list octets
   pub too_many : longest_packet < length octets + length (segment_data next)
 
--- Octets are left: the next segment ends a series, whose service data unit isn't too long, and
--- `count` octets are left after the unit's packets.
+-- The next segment ends a series, whose service data unit isn't too long, and `count` octets are left
+-- after the unit's packets, also where `count` is 0.
 pub record HasTail (list : List (List ℕ)) (next : List ℕ) (count : ℕ) : Type 0 where
   pub ended : SeriesAt
   pub series : IsSeriesOf (list ++ next ∷ []) ended
@@ -102,8 +104,9 @@ abbrev pub of_segment : {X : Type 0} → X → (List ℕ → X) → List (List �
 of_segment none told [] = none
 of_segment none told (segment ∷ segments) = told segment
 
--- what a report says of the segment of the frame's unit, where the unit is accepted, with the
--- segments that came before on its MAP; `none` where the unit isn't accepted
+-- what a report says of the segment of the frame's unit, where the unit is accepted; `none` where it
+-- isn't, as `segment_by` is an empty list then. Here `told` takes two arguments: the segments that came
+-- before on the MAP, and the segment.
 abbrev pub of_accepted :
     {X : Type 0} → X → (List (List ℕ) → List ℕ → X) → ReceptionParameters → List TcView → TcView → X
 of_accepted none told r views next =

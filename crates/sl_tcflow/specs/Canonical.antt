@@ -48,7 +48,8 @@ RecordedListsFit =
     (format : TcFormat) (spacecraft : ℕ) (r : ReceptionParameters) (recording : List ℕ)
     → FitsTc format r.plain (tc_lists format spacecraft r recording)
 
--- The normal form is its frames end to end: no octet remains.
+-- The normal form is its frames end to end: no octet remains. (Of the laws here some write out what
+-- `CanBeWritten` puts together.)
 abbrev pub NormalFormIsFrames : Type 0
 NormalFormIsFrames =
     (format : TcFormat) (spacecraft : ℕ) (starts plain : List ℕ) (lists : List (List (List ℕ)))

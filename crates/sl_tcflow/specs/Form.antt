@@ -23,8 +23,9 @@ ns_after format plain channel ns packet =
     (ns + length (units_of_packet plain (segment_room_of format) (channel % 64) packet)) % 256
 
 -- Octets enough for any piece: 2 * 65,542 + 7. A packet has at most 65,542 octets. Each of its
--- frames adds at most 8 octets of its own, and each of its frames but the last carries at least 8
--- octets of the packet. So a piece has at most 7 octets more than twice the packet.
+-- frames adds at most 8 octets of its own, and the greatest length of a frame is 16 or more. So each
+-- of its frames but the last carries at least 8 octets of the packet, and a piece has at most 7
+-- octets more than twice the packet.
 abbrev pub piece_room : ℕ
 piece_room = 131091
 
@@ -55,8 +56,11 @@ channels_left format spacecraft starts plain lists vc n =
     (take 64 (drop (64 * vc) lists)))
     (range_with_len vc n))
 
--- the octets that are still to come where the packets of all channels before `channel`, and the
--- first `framed` packets of this channel, are framed already
+-- The octets that are still to come where the packets of all channels before `channel`, and the
+-- first `framed` packets of this channel, are framed already. Here `plain` is the virtual channels
+-- without segment headers; above, in `piece_of` and `maps_left`, whether one is among them. Channel
+-- 4096 comes after all of them, as if on virtual channel 64: its list is empty, and the last number
+-- below, 63 - 64, is 0, so that no virtual channel is left.
 unfoldable pub form_left : TcFormat → ℕ → List ℕ → List ℕ → List (List (List ℕ)) → ℕ → ℕ → ℕ → List ℕ
 form_left format spacecraft starts plain lists channel framed ns =
     maps_left format spacecraft (has_vc plain (channel / 64)) (channel / 64) (channel % 64) ns

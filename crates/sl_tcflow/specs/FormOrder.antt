@@ -19,8 +19,8 @@ abbrev pub form_views : TcFormat → ℕ → List ℕ → List ℕ → List (Lis
 form_views format spacecraft starts plain lists =
     recorded_views format spacecraft (tc_normal_form_of format spacecraft starts plain lists)
 
--- the segments of a MAP in frames of a virtual channel without segment headers (`plain`) or with
--- them, whether FARM-1 accepts the frames or not
+-- the segments of a MAP in the frames of a virtual channel, `channel`, without segment headers
+-- (`plain`) or with them, whether FARM-1 accepts the frames or not
 abbrev pub segments_in : Bool → ℕ → List TcView → List (List ℕ)
 segments_in plain map_id channel =
     segments_on map_id (map (segment_in plain) (flat_map (λ (view : TcView). unit_of view.content) channel))
@@ -46,8 +46,7 @@ ChannelsNeverFall =
     → NeverFall 0 (map (λ (view : TcView). view.vc) (form_views format spacecraft starts plain lists))
 
 -- The MAPs of the frames of a virtual channel never fall. On a virtual channel without segment
--- headers all frames are on MAP 0, by the definition of `segment_in`. There are no virtual channels
--- above 63.
+-- headers all frames are on MAP 0, as `map_of` has it. There are no virtual channels above 63.
 abbrev pub MapsNeverFall : Type 0
 MapsNeverFall =
     (format : TcFormat) (spacecraft : ℕ) (starts plain : List ℕ) (lists : List (List (List ℕ)))

@@ -1,6 +1,6 @@
--- Series of segments that are incomplete, CCSDS 232.0-B: the segments so far end with a first one,
--- and continuing ones or none after it. The greatest length of a service data unit, 65,542 octets,
--- is the project's own choice (mission profile).
+-- Series of segments that are incomplete, CCSDS 232.0-B: the last first segment of a MAP, after
+-- which continuing ones have come, or none, and no other. The greatest length of a service data
+-- unit, 65,542 octets, is the project's own choice (mission profile).
 use Rattle.std.specs.Prelude.{◌≡◌, ℕ, ◌+◌, ◌≤◌, ◌==◌, ◌&&◌, Bool, true, false, nat_le, nat_lt, if◌then◌else◌, List, [], ◌∷◌, ◌++◌, length, Option, None, Some}
 use Rattle.std.specs.List.{AllByRecursion}
 use Rattle.sl_packet.specs.Packet.{longest_packet}

@@ -1,8 +1,9 @@
 -- What the next segment of a MAP does, CCSDS 232.0-B. In this file `held` is the octets so far of
 -- the series that is incomplete before the segment, if there is one; `flags` is the segment's
--- sequence flags; and `octets` is the octets after its segment header. These are the code's steps,
--- not the standard's: only contracts of private functions and lemmas cite them, and lemmas tie them
--- to the series of a MAP's list.
+-- sequence flags; and `octets` is the octets after its segment header. Names with `_with` take these
+-- three, and those with `_after` the segment itself. These are the code's steps, not the standard's:
+-- only contracts of private functions and lemmas cite them, and lemmas tie them to the series of a
+-- MAP's list.
 use Rattle.std.specs.Prelude.{◌≡◌, ℕ, ◌==◌, ◌&&◌, Bool, false, if◌then◌else◌, is_none, option_map, List, [], ◌++◌, length, Option, None, Some}
 use Rattle.sl_cop.specs.declared.verdict.Verdict.TheVariants.{Accept}
 use Rattle.sl_packet.specs.Packets.{only_idle, packets_of, rest_of, without_idle}
@@ -73,7 +74,7 @@ tail_after held next = tail_with held (flags_of next) (segment_data next)
 
 -- ---- the anomalies of the next segment
 
--- whether the next segment is out of sequence
+-- whether the next segment is out of sequence: a continuing or a last one, where no series is incomplete
 abbrev pub stray_with : Option (List ℕ) → ℕ → Bool
 stray_with held flags = continues_by flags && is_none held
 
@@ -81,19 +82,21 @@ stray_with held flags = continues_by flags && is_none held
 abbrev pub dropped_with : Option (List ℕ) → ℕ → Option ℕ
 dropped_with held flags = if begins_by flags then option_map length held else None
 
--- whether the incomplete series is given up, because it is too long with the next segment
+-- whether the incomplete series is given up, because it is too long with the next segment, a continuing or a
+-- last one
 abbrev pub long_with : Option (List ℕ) → ℕ → List ℕ → Bool
 long_with held flags octets = continues_by flags && exceeds_limit (option_map length held) (length octets)
 
 -- ---- the report on the next segment
 
 -- the report where the unit is accepted, no service data unit ends and there is no anomaly; the MAP
--- is left 0
+-- is left 0 (`EMPTY_STEP` of the code)
 abbrev pub quiet_report : StepReport
 quiet_report =
     record { verdict = Accept; map = 0; packets = 0; idle = 0; stray = false; dropped = None; long = false; tail = 0 }
 
--- the report on a segment that ends this service data unit, apart from a dropped series
+-- the report on a segment that ends a service data unit, which has these octets; whether the segment
+-- drops a series isn't said here
 abbrev pub unit_report : List ℕ → StepReport
 unit_report octets = record quiet_report {
   packets = length (without_idle (packets_of octets));

@@ -30,7 +30,7 @@ AreIncomplete r incomplete views =
     → slice_index_or incomplete (channel_at vc map_id) None ≡ incomplete_of (segments_of r vc map_id views)
 
 -- The octets so far of an incomplete series, none where there is no such series. Only contracts of
--- private functions stand on this and on `held_in`.
+-- private functions of `sl_link` stand on this and on `held_in`.
 abbrev pub octets_of_series : Option (List ℕ) → List ℕ
 octets_of_series None = []
 octets_of_series (Some octets) = octets
@@ -92,10 +92,10 @@ abbrev pub ended_by : ReceptionParameters → List TcView → TcView → List (L
 ended_by r views next =
     flat_map (packets_ended (segments_of r next.vc (map_by r next) views)) (segment_by r views next)
 
--- The property holds for all parameters `r` and all lists `views` of the frames before the next
--- one, where both agree with three values: `plain` says whether the next frame's virtual channel
--- has no segment headers, `incomplete` has the series that are incomplete after `views`, and
--- `verdict` is that of FARM-1 on the next frame.
+-- The private function that takes a unit knows three values alone: `plain`, whether the next frame's
+-- virtual channel has no segment headers; `incomplete`, the series that are incomplete before that
+-- frame; and `verdict`, that of FARM-1 on it. The property holds for all parameters `r` and all
+-- earlier frames `views` that lead to these three values.
 abbrev pub ForIncomplete :
     Bool → List (Option (List ℕ)) → Verdict → TcView → (ReceptionParameters → List TcView → Type 0) → Type 0
 ForIncomplete plain incomplete verdict next holds =

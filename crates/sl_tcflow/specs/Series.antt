@@ -5,7 +5,7 @@ use Rattle.std.specs.List.{AllByRecursion, concat, filter}
 use Rattle.sl_fields.specs.Field.{octets_of}
 use Rattle.sl_fields.specs.SegmentHeader.{SegmentFields, segment_header}
 
--- the segment header of a segment
+-- the segment header of a segment, which is its first octet
 abbrev pub header_at : List ℕ → SegmentFields
 header_at segment = segment_header (take 1 segment)
 
@@ -14,8 +14,8 @@ abbrev pub segment_data : List ℕ → List ℕ
 segment_data segment = drop 1 segment
 
 -- The segment that stands for a unit without a segment header: all octets of the unit, after a
--- segment header with sequence flags 3 (no segmentation) and MAP 0. MAP 0 is the project's own
--- choice (mission profile).
+-- segment header with sequence flags 3 (no segmentation) and MAP 0. Below, (2, 3) is a field of 2 bits
+-- with the value 3, and (6, 0) the MAP. MAP 0 is the project's own choice (mission profile).
 abbrev pub whole_segment : List ℕ → List ℕ
 whole_segment unit = octets_of 1 ((2, 3) ∷ (6, 0) ∷ []) ++ unit
 

@@ -5,7 +5,7 @@ use Rattle.std.specs.List.{slice_index_or}
 -- The series that are incomplete, and the memory for them.
 pub record IncompleteSeries : Type 0 where
   -- For each channel the octets so far of its incomplete series, if there is one. The list reaches
-  -- up to the greatest channel on which a series has begun.
+  -- up to the greatest channel on which a first segment has come.
   pub list : List (Option (List ℕ))
   -- for how many channels the list has memory
   pub capacity : ℕ

@@ -14,7 +14,8 @@ use Rattle.sl_tcflow.specs.Series.{IsSeries, header_at, reassembled, segment_dat
 abbrev pub segment_count : ℕ → List ℕ → ℕ
 segment_count room packet = (length packet + room - 1) / room
 
--- the octets of the packet in the segment with this number, from 0 on
+-- the octets of the packet in the segment with this number, from 0 on (a piece of a packet; that of a
+-- form, in Form.antt, is all frames of one)
 abbrev pub piece_at : ℕ → List ℕ → ℕ → List ℕ
 piece_at room packet number = take room (drop (number * room) packet)
 

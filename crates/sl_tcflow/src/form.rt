@@ -22,13 +22,14 @@ use std::alloc::AllocError;
 use std::marker::Model;
 
 /// Octets enough for any piece of a [`TcForm`]: 2 * 65,542 + 7. A packet has at most 65,542 octets.
-/// Each of its frames adds at most 8 octets of its own: a header, a segment header and an error
-/// control field. Each of its frames but the last carries at least 8 octets of the packet, and the
-/// last at least 1. So the frames add at most 7 octets more than the packet has.
+/// Each of its frames adds at most 8 octets of its own: a header of 5, a segment header and an
+/// error control field. The greatest length of a frame is at least 16, so each of its frames but
+/// the last carries at least 8 octets of the packet, and the last at least 1. So a piece has at
+/// most 7 octets more than twice the packet.
 pub const PIECE_ROOM: usize = 131_091;
 
-/// The number of channels. Virtual channel `v` and MAP `m` have the channel `64 * v + m`, 0 to
-/// 4095.
+/// The number of channels, on the receiving side too. Virtual channel `v` and MAP `m` have the
+/// channel `64 * v + m`, 0 to 4095.
 pub const CHANNELS: u16 = 4096;
 
 /// The normal form of delivered packets, made piece by piece: frames of CCSDS 232.0-B of type AD in
@@ -36,7 +37,7 @@ pub const CHANNELS: u16 = 4096;
 /// that are still to come.
 ///
 /// A piece is the next octets of the form, 1 to [`PIECE_ROOM`]. In the code each piece is the
-/// frames of one packet; no clause says so.
+/// frames of one packet, and definitions for the proof say so; no clause of a public call does.
 #[derive(Drop)]
 pub struct TcForm<'d> {
     shape: TcShape,
@@ -98,7 +99,8 @@ impl<'d> TcForm<'d> {
             tc_lists shape spacecraft (record { window = w; starts = starts; plain = plain }) result
             ≡ delivered.now.lists }
 
-        // There is a list of packets for each channel.
+        // There is a list of packets for each channel. This is about the argument: it holds of
+        // every store, and callers want it beside the form.
         ensures size { length delivered.now.lists ≡ channel_count }
     {
         let max = shape.max();

@@ -24,7 +24,8 @@ pub(crate) struct Heading {
 }
 
 // Adds the frames of a packet on a virtual channel with segment headers to the end of `form`.
-// Answers the N(S) of the frame after them.
+// Answers the N(S) of the frame after them. (A packet on a virtual channel without them is one
+// frame, which the caller adds itself.)
 pub(crate) fn push_packet(
     form: &mut Vec<u8>,
     shape: &TcShape,
@@ -34,8 +35,9 @@ pub(crate) fn push_packet(
     requires spacecraft { heading.spacecraft ≤ 1023 }
     requires channel { heading.channel < channel_count }
     requires segments { heading.plain ≡ false }
-    // The frames are those of the packet, and N(S) rises by one with each, modulo 256. A segment
-    // has room for octets, and the frames have at most `2 * length + 7` octets together.
+    // The frames are those of the packet, and N(S) rises by one with each, modulo 256. Each segment
+    // has room for an octet of the packet at least, so the frames have at most `2 * length + 7`
+    // octets together.
     ensures frames { OnOk result (form.new.items ≡ form.old.items
         ++ piece_of shape.now heading.spacecraft false heading.channel heading.ns packet.now) }
     ensures next { IfOk result (λ next. next

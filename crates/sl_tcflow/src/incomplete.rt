@@ -18,7 +18,8 @@ use std::alloc::Global;
 use std::marker::Model;
 
 /// The memory of an ended series is kept for the next series where its capacity is at most this
-/// number of octets.
+/// number of octets, as the invariant `IsKept` has it too. So a MAP with short series takes memory
+/// once, and one with a long series doesn't hold it for ever.
 const MOST_KEPT: usize = 4096;
 
 /// The incomplete series of a MAP, if there is one. In clauses it is the octets of the series so
@@ -97,7 +98,7 @@ impl Incomplete {
             CONTINUING => self.extend(segment.octets),
             FIRST => self.begin(segment.octets),
             LAST => self.end(segment.octets, segment.channel, sink),
-            // no segmentation
+            // `WHOLE`, no segmentation
             _ => {
                 let given_up = self.give_up();
                 match hand(sink, segment.channel, segment.octets) {
@@ -111,7 +112,8 @@ impl Incomplete {
         }
     }
 
-    // Begins a series with these octets. Gives up the incomplete series before, if there is one.
+    // Begins a series with these octets, which are never too many for one (`if_fits`). Gives up the
+    // incomplete series before, if there is one.
     #[inline(always)]
     fn begin(&mut self, octets: &[u8]) -> Result<TcStep, FlowFault>
         requires { length octets.now ≤ longest_unit }
@@ -202,6 +204,7 @@ impl Incomplete {
         ensures { self.new ≡ None }
     {
         if self.octets.capacity() > MOST_KEPT {
+            // For the memory alone: the series has ended, and isn't one that is given up.
             self.give_up();
             return;
         }

@@ -150,12 +150,12 @@ pub fn units_are_accepted_in_order()
     ensures expected { ExpectedUnitIsAccepted }
 {}
 
-/// The conditions are those of the second paragraph at `units_are_accepted_in_order`, and no frame
-/// of type BD comes. Then all accepted units are of type AD. The packets of each MAP are a prefix
-/// of the packets that all sent units make: no other packet is delivered, none more often than it
-/// was sent, and none before one that was sent earlier. The same holds of the packets that a
-/// recording of these frames delivers on the virtual channel and MAP, idle packets left out on both
-/// sides.
+/// The frames were sent and arrive as `units_are_accepted_in_order` says in its second paragraph,
+/// from "The frames were sent" on, and none of them is of type BD. Then all accepted units are of
+/// type AD. The packets of each MAP are a prefix of the packets that all sent units make: no other
+/// packet is delivered, none more often than it was sent, and none before one that was sent
+/// earlier. The same holds of the packets that a recording of these frames delivers on the virtual
+/// channel and MAP, idle packets left out on both sides.
 pub fn packets_are_delivered_in_order()
     ensures all { AdUnitsAreAll }
     ensures packets { PacketsInOrder }

@@ -17,6 +17,9 @@
 //! The packets of virtual channel `v` and MAP `m` are on channel `64 * v + m`, 0 to 4095.
 #![tactic(auto)]
 
+// From the bottom: `segment`, `report`, `hand_over`, `incomplete`, `series_store`, `farms` and
+// `receiver` take packets out of frames; `frames`, `form`, `reframe` and `fits` write frames. The
+// number of channels, which both have, stands in `form`.
 mod farms;
 mod fits;
 mod form;

@@ -87,6 +87,7 @@ impl Receiver {
     /// - `Memory`: memory was refused. Memory is refused only where the unit is accepted and a
     ///   series is incomplete on its MAP, before the frame or after it. The sink has accepted the
     ///   packets up to a point in their order, perhaps none, perhaps all of them, and refused none.
+    ///   (This code takes all memory before it hands a packet over. No clause says so.)
     /// - `Sink`: the sink refused a packet. The sink has accepted the packets before this one, and
     ///   none after it. Its count of refused packets has risen by one, unless the count was at its
     ///   greatest, 2^64 - 1.
@@ -149,7 +150,8 @@ impl Receiver {
 
         // Memory is refused only where the frame's unit is accepted and a series is incomplete on
         // its MAP, before the frame or after it. Only there does the memory change that is held for
-        // the list of the incomplete series; the octets of a series have memory of their own.
+        // the list of the incomplete series; the octets of a series have memory of their own. (In
+        // this code the list gets memory only where a series is incomplete after the frame.)
         ensures memory { IfErr result (λ flow. flow ≡ FlowFault.Memory →
             ForProcessed self.old (λ r views. IsIncompleteAround r views frame.now)) }
         ensures capacity { self.new.series.capacity ≢ self.old.series.capacity →
@@ -160,6 +162,8 @@ impl Receiver {
         }
         let verdict = self.farms.step(frame);
         let plain = self.plain.has(frame.vc());
+        // `match` and not `?`, here and below: `?` converts the fault, and each clause on faults
+        // would then have to be proved by hand.
         match take_unit(&mut self.series, plain, verdict, frame, sink) {
             Ok(step) => Ok(step),
             Err(flow) => {
@@ -198,8 +202,9 @@ impl Receiver {
         self.series.held(vc, map).unwrap_or(0)
     }
 
-    /// Whether a series is incomplete on the virtual channel `vc` and the MAP `map`, each 0 to 63.
-    /// The series may have no octets so far. After a fault no clause says what the answer is.
+    /// Whether a series is open, that is, incomplete, on the virtual channel `vc` and MAP `map`,
+    /// each 0 to 63. The series may have no octets so far. After a fault no clause says what the
+    /// answer is.
     pub fn is_open(&self, vc: u8, map: u8) -> bool
         requires vc { vc ≤ 63 }
         requires map { map ≤ 63 }
@@ -238,6 +243,7 @@ fn take_unit<S: PacketSink>(
     frame: &TcFrame,
     sink: &mut S,
 ) -> Result<TcStep, FlowFault>
+    // The clauses speak of virtual channels up to 63.
     requires { frame.now.vc ≤ 63 }
     // `r` and `views` in a clause are any parameters and any frames that may have come before and
     // led to these series and this verdict. The unit continues, ends or begins its series, its
@@ -261,7 +267,8 @@ fn take_unit<S: PacketSink>(
         (λ r views. IsIncompleteAround r views frame.now) }
 
     // The sink's count of refused packets rises exactly at `Sink`, unless the count was at its
-    // greatest. No fault is `Failed`.
+    // greatest. No fault is `Failed`. `hands_over` says so too, but only where there are frames
+    // that may have led to these series (`ForIncomplete`); these three need none.
     ensures kept { OnOk result (S.failures sink.new ≡ S.failures sink.old) }
     ensures counted { IfErr result (λ flow. CountsFault S.failures sink.old flow sink.new) }
     ensures not_failed { IfErr result (λ flow. flow ≢ FlowFault.Failed) }
@@ -269,6 +276,7 @@ fn take_unit<S: PacketSink>(
     let segment = segment_of(frame, plain);
     let map = map_in(&segment);
     match accepted(verdict, segment) {
+        // The verdict is `Accept` here, as each report on a segment has it.
         Some(segment) => match series.take_segment(&segment, sink) {
             Ok(step) => Ok(TcStep { map, ..step }),
             Err(flow) => Err(flow),

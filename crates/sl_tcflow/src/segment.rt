@@ -75,6 +75,7 @@ fn read_segment(vc: u8, plain: bool, unit: &[u8]) -> Segment
             octets: unit,
         };
     }
+    // the first octet, and the others
     let (header, octets) = front::<1>(unit);
     let header = SegmentHeader::read(header);
     Segment {

@@ -25,7 +25,7 @@ use std::marker::Model;
 pub struct SeriesStore {
     alloc: Global,
     // The incomplete series of each channel, if there is one. The list reaches up to the greatest
-    // channel on which a series has begun.
+    // channel on which a first segment has come.
     list: Vec<Incomplete>,
 }
 
@@ -77,6 +77,8 @@ impl SeriesStore {
         ensures least { (channel : ℕ) → result ≡ channel + 1
             → at self.now.list channel ≢ None }
     {
+        // The list never has more places than there are channels. `min` shows it, in place of an
+        // invariant.
         let mut from = self.list.len().min(usize::from(CHANNELS));
         while 0 < from && self.list[from - 1].held().is_none() {
             from -= 1;
@@ -133,8 +135,9 @@ impl SeriesStore {
 }
 
 // Takes a segment other than a first one (sequence flags 1), of a channel that the list doesn't
-// reach. No series is incomplete there, and none begins: a whole packet is handed over, and any
-// other segment is stray. The only fault is `Sink`: the sink refused a packet.
+// reach. No series is incomplete there, and none begins: the packets of a segment with no
+// segmentation are handed over, and any other segment is stray. The only fault is `Sink`: the sink
+// refused a packet.
 fn take_alone<S: PacketSink>(segment: &Segment, sink: &mut S) -> Result<TcStep, FlowFault>
     requires { segment.now.flags ≢ 1 }
     // No series is incomplete after the segment either.

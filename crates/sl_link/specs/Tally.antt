@@ -9,7 +9,7 @@ abbrev pub skipped_in : (List ℕ → Bool) → List (List ℕ) → ℕ
 skipped_in is_skipped [] = 0
 skipped_in is_skipped (frame ∷ frames) = (if is_skipped frame then 1 else 0) + skipped_in is_skipped frames
 
--- the seven counts
+-- the seven counts, in the order in which `Counts` has them
 abbrev pub counts_with : ℕ → ℕ → ℕ → ℕ → ℕ → ℕ → ℕ → Counts
 counts_with octets frames skipped remainder packets idle anomalies =
     record {
@@ -52,6 +52,7 @@ abbrev pub counts_with_remainder : Counts → ℕ → ℕ → Counts
 counts_with_remainder c remainder more =
     counts_with (c.octets + remainder) c.frames c.skipped remainder c.packets c.idle (c.anomalies + more)
 
--- the counts of frames, which brought these packets and anomalies together
+-- The counts of frames, without a remainder. The three numbers after the frames are how many packets they brought
+-- together, how many idle ones, and how many anomalies.
 abbrev pub counts_so_far : (List ℕ → Bool) → List (List ℕ) → ℕ → ℕ → ℕ → Counts
 counts_so_far is_skipped frames = counts_with (length (concat frames)) (length frames) (skipped_in is_skipped frames) 0

@@ -37,8 +37,9 @@ pub trait Delivery: Drop {
     /// Whether the state is the one after these frames, processed in this order.
     ghost has_processed: { Self → Parameters → List (List ℕ) → Type 0 };
 
-    /// Whether something is incomplete before or after the last of these frames, on its channel.
-    /// For TC this implies that the frame's unit was accepted.
+    /// Whether a packet, or a series of segments, is incomplete on the channel of the last of these
+    /// frames, before that frame or after it: only then may its delivery take memory. For TC this
+    /// implies that the frame's unit was accepted.
     ghost is_incomplete_at_last: { Parameters → List (List ℕ) → Type 0 };
 
     /// What is found of a frame that comes after others.
@@ -49,8 +50,8 @@ pub trait Delivery: Drop {
         ensures { has_processed result managed.now [] };
 
     /// Hands a sink the packets that end in the next frame, idle packets left out. Answers the
-    /// report on the frame, and what is found of it. In a skipped frame no packet ends. The fault
-    /// is the sink's, or `Memory`.
+    /// report on the frame, which is whether it is skipped and its numbers of packets, and what is
+    /// found of it. In a skipped frame no packet ends. The fault is the sink's, or `Memory`.
     fn deliver<S: PacketSink>(
         &mut self,
         managed: &Managed,
@@ -79,7 +80,8 @@ pub trait Delivery: Drop {
             → has_processed self.old managed.now before → fault ≡ FlowFault.Memory
             → is_incomplete_at_last managed.now (before ++ frame.now ∷ [])) };
 
-    /// The frames that were processed deliver at most as many packets as they have octets.
+    /// What holds of the kind (`AreDelivered`), and that the frames that were processed deliver at
+    /// most as many packets as they have octets.
     ghost within: { (delivery : Self) (p : Parameters) (frames : List (List ℕ))
         → has_processed delivery p frames → IsWithin (kind p) frames };
 }
@@ -91,7 +93,8 @@ pub struct TmFound {
     pub vc_count: u8,
     /// The count that was expected, where the frame has another one.
     pub gap: Option<u8>,
-    /// How many octets the packet has that the frame breaks off, and 0 where there is none.
+    /// How many octets the packet has that the frame breaks off, and 0 where there is none: an
+    /// incomplete packet has one or more.
     pub dropped: u32,
     pub opaque: bool,
     /// Whether octets of another packet version stand at a packet start.
@@ -121,7 +124,7 @@ pub struct TcFound {
     pub stray: bool,
     /// Whether a series is given up, because it is too long.
     pub long: bool,
-    /// How many octets the series has that is dropped, if one is.
+    /// How many octets the series has that is dropped, if one is: a series may have none yet.
     pub dropped: Option<u32>,
     /// How many octets are left after the last packet of a service data unit.
     pub tail: u32,
@@ -248,6 +251,8 @@ impl Delivery for Receiver {
     ghost within = { λ receiver p frames processed. processed.within };
 }
 
+// Whether a frame is opaque. The clause cites the definition of the same name; `entry` is the
+// argument as it comes.
 fn is_opaque(field: TmField) -> bool
     ensures { result ≡ is_opaque (data_field field.entry) }
 {

@@ -11,10 +11,12 @@
 //! - `same_packets_in_memory_` does so for recordings that are slices.
 //!
 //! Each call is under the [`Managed`] parameters of the link, and answers why it stopped, a
-//! [`LinkFault`], or what it found. The first three read a [`Counted`] stream, write another one
-//! and answer what they counted, their [`Totals`]. The last two answer a `bool`; `same_packets_`
-//! reads two such streams. [`run_engine`] makes a call of the first three points, which a
-//! [`VerbName`] and a [`RecordingKind`] choose.
+//! [`LinkFault`], or what it found. Those of the first three points read a [`Counted`] stream,
+//! write another one and answer what they counted, their [`Totals`]. The last two answer a `bool`;
+//! `same_packets_` reads two such streams. [`run_engine`] makes a call of the first three points,
+//! which a [`VerbName`] and a [`RecordingKind`] choose.
+//!
+//! How a recording goes through the modules is drawn in docs/architecture.md.
 #![tactic(auto)]
 
 mod engine;

@@ -258,6 +258,7 @@ pub fn store_packets<D: Delivery, F: Framer, R: Read>(
         delivered,
         ..
     } = store;
+    // No anomalies are counted, after the last frame neither.
     Ok((delivered, so_far.totals(octets - so_far.octets(), 0)))
 }
 
@@ -302,6 +303,7 @@ impl<D: Delivery> FrameSink for Store<D> {
 
     ghost is_frame = { D.is_frame };
 
+    // What holds of the store, `now`, after these frames, whatever store it was at the `start`.
     ghost took = { λ p start now frames. HasDelivered (D.kind p) (D.has_processed now.delivery p)
         frames 0 now.so_far × AreStored (D.kind p) frames now.delivered.lists };
 

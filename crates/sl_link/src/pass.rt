@@ -51,8 +51,11 @@ pub fn read_recording<F: Framer, S: FrameSink, R: Read>(
     }
 }
 
-/// Hands over the frames that a chunk completes, and then pauses. The clauses speak of any past: of
-/// a sink `start`, and of all octets so far, which end with the chunk.
+/// Hands over the frames that a chunk completes, and then pauses. A clause holds whatever came
+/// before: for each value `start` with which the sink may have begun, and for all octets that may
+/// have come, `octets`, those of the chunk included. The last argument of `HasCutFrames` is the
+/// part of `octets` that the framer hasn't seen yet: before the call the whole chunk, and at a
+/// fault what is `left` of it.
 pub fn deliver_chunk<F: Framer, S: FrameSink>(
     managed: &Managed,
     framer: &mut F,

@@ -85,9 +85,9 @@ pub fn run<R: Read, W: Write, E: Write>(
     ensures refused { result ≡ 2 → (reader.new ≡ reader.old) × (writer.new ≡ writer.old)
         × (AreRefused (map string_bytes words.now) ⊎ WithAsked (map string_bytes words.now)
         AsksForRefusedParameter) }
-    // Either a fault stopped the engine that the words ask for, and has its cause. Or nothing was
-    // read, and the writer failed at the text of help or of the version. Or nothing was read or
-    // written, since memory was refused: no clause can say that, so any words may end like this.
+    // Either nothing was read or written, since memory was refused: no clause can say that, so any
+    // words may end like this. Or nothing was read, and the writer failed at the text of help or of
+    // the version. Or a fault stopped the engine that the words ask for, and has its cause.
     ensures stopped { result ≡ 3 → ((reader.new ≡ reader.old) × ((writer.new ≡ writer.old)
         ⊎ WithAnswer (map string_bytes words.now)
         (λ text. StopsWriting W.contents writer.old writer.new text ⊥ LinkFault.Write)))
@@ -122,6 +122,7 @@ fn run_asked<R: Read, W: Write, E: Write>(
     match &asked.managed {
         Ok(managed) => match run_and_flush(alloc, engine, managed, reader, writer) {
             Ok(totals) if totals.anomalies() == 0 => SUCCESS,
+            // by `check`: no other engine counts anomalies
             Ok(_) => ANOMALIES,
             Err(fault) => report(fault, errors),
         },
@@ -171,7 +172,8 @@ fn report<E: Write>(fault: LinkFault, errors: &mut E) -> u8
     FAULT
 }
 
-// Writes help, the version, or why the command line is refused, and returns the exit status.
+// Writes help, the version, or why the command line is refused, and returns the exit status. The
+// word for help or the version counts as a refusal here.
 fn report_refusal<W: Write, E: Write>(
     alloc: Global,
     refusal: &Error,

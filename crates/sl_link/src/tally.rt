@@ -4,7 +4,7 @@ ghost use Rattle.sl_link.specs.Tally.{counts_more, counts_with_anomalies, counts
 
 use crate::link::totals::Totals;
 
-/// What a frame brought: its packets, idle ones apart.
+/// What a frame brought: `packets` that aren't idle, and `idle` ones.
 #[derive(Clone, Copy)]
 pub struct FrameReport {
     pub is_skipped: bool,
@@ -36,8 +36,8 @@ impl Totals {
         }
     }
 
-    /// Counts one frame more, of `octets` octets. With it all packets, idle ones included, are no
-    /// more than all octets.
+    /// Counts one frame more, of `octets` octets. The caller sees to it that all packets, idle ones
+    /// included, are then no more than all octets.
     pub(crate) fn add(&mut self, octets: u64, report: FrameReport)
         requires fits { self.old.octets + octets < 2 ^ 64 }
         requires within { self.old.packets + report.packets + (self.old.idle + report.idle)
@@ -54,7 +54,7 @@ impl Totals {
         self.idle += u64::from(report.idle);
     }
 
-    /// Counts `more` anomalies. All are then no more than the octets.
+    /// Counts `more` anomalies. The caller sees to it that all are then no more than the octets.
     pub(crate) fn add_anomalies(&mut self, more: u64)
         requires { self.old.anomalies + more ≤ self.old.octets }
         ensures { self.new ≡ counts_with_anomalies self.old more }
@@ -62,8 +62,8 @@ impl Totals {
         self.anomalies += more;
     }
 
-    /// The totals of a recording whose remainder has `remainder` octets, where `more` anomalies
-    /// were met after the last frame.
+    /// The totals of the whole recording, where these are those of its frames: its remainder has
+    /// `remainder` octets, and `more` anomalies were met after the last frame.
     pub(crate) fn totals(&self, remainder: u64, more: u64) -> Totals
         requires fits { self.now.octets + remainder < 2 ^ 64 }
         requires few { self.now.anomalies + more ≤ self.now.octets + remainder }

@@ -131,7 +131,8 @@ fn list_into<F: Framer, V: Verb, R: Read, W: Write>(
         out.new.writer.now (F.frames_of managed.now) (V.listing managed.now)
         managed.now.max_octets (length buffer.old) (V.may_refuse_memory managed.now) result }
 {
-    // A copy: the proof doesn't hold a reference that was lent across the call.
+    // A copy: the prover loses a reference that was lent to a call, and the clause speaks of what
+    // it refers to. (What `verb` and `out` are after the call, the lister's clause `took` says.)
     let managed = *managed;
     let mut lister = Lister { verb, out };
     let octets = read_recording(&managed, framer, &mut lister, reader, buffer)?;

@@ -20,7 +20,7 @@ HasRoom lines = HasRoomFor reserve lines
 -- ---- How long the parts of a line are at most, in octets: a part has no more. Room for the octets of a
 -- packet is made as they are added.
 
--- a line that isn't a packet's: of a frame there are five at most, 1000 octets of the reserve
+-- a line that isn't a packet's; the reserve has room for five of a frame, 1000 octets
 abbrev pub line_width : ℕ
 line_width = 200
 
@@ -29,8 +29,7 @@ line_width = 200
 abbrev pub text_width : ℕ
 text_width = 179
 
--- the control field or the content of a frame, the header of a packet; a text of TC is 13 octets, a part
--- and fields, one of TM a part, an octet and twice some words
+-- the operational control field or the content of a frame; the header of a packet
 abbrev pub part_width : ℕ
 part_width = 100
 
@@ -42,7 +41,7 @@ fields_width = 60
 abbrev pub words_width : ℕ
 words_width = 30
 
--- a number, a verdict, a reason to skip, sequence flags
+-- a number, and words that are no longer: a verdict, a reason to skip, sequence flags
 abbrev pub number_width : ℕ
 number_width = 20
 

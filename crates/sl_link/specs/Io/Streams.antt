@@ -50,8 +50,8 @@ pub record ReadsAll {R : Type 0} (remaining : R → Option (List ℕ)) (old new 
 
 -- An engine's fault has its cause, and no other: at most the stream that it names had a fault of its own. At `TooLong`
 -- more octets than the limit were read, by `past` at most, and at any other fault no more than the limit. No clause can
--- say that memory was refused. Where no reader or no writer takes part, `no_stream` stands for it. That stream has had
--- no fault, so no engine's fault names it.
+-- say that memory was refused. Where no reader or no writer takes part, `no_stream` stands for it, before and after.
+-- Its count of faults is 0 both times, so it had no fault (0 isn't one more than 0), and no engine's fault names it.
 abbrev pub IsCaused : {R W : Type 0} → Counted R → Counted R → Counted W → Counted W → ℕ → ℕ → List ℕ → LinkFault
     → Type 0
 IsCaused reader reader' writer writer' limit past octets Read =
@@ -124,7 +124,8 @@ module _ {R W : Type 0} (remaining : R → Option (List ℕ)) (contents : W → 
     pub written : Writes contents writer writer' form
     pub same : packets form ≡ packets recording
 
-  -- Octets were read and a prefix of their text was written, and then came a fault, which has its cause.
+  -- Octets were read and a prefix of their text was written, and then came a fault, which has its cause. Each read goes
+  -- past the limit by the size of the buffer at most.
   pub record Stops (reader reader' : Counted R) (writer writer' : Counted W) (text : List ℕ → List ℕ) (limit buffer : ℕ)
       (fault : LinkFault) : Type 0 where
     pub octets : List ℕ

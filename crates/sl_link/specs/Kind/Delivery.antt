@@ -86,7 +86,8 @@ pub record IsReport (k : Kind) (before : List (List ℕ)) (frame : List ℕ) (re
   pub packets : report.packets ≡ length (without_idle (k.ended before frame))
   pub idle : report.idle ≡ length (only_idle (k.ended before frame))
 
--- the report on a frame of five octets or more
+-- What a frame brings: a report on it. The frame has five octets or more, as each frame that a framer cuts. So it has
+-- more octets than `check` has lines for it.
 pub record Brings (k : Kind) (before : List (List ℕ)) (frame : List ℕ) (report : FrameReport) : Type 0 where
   pub some : 5 ≤ length frame
   pub reported : IsReport k before frame report
@@ -97,8 +98,9 @@ pub record Delivers {S : Type 0} (taking : S → ℕ → List ℕ → S → Type
   pub accepted : TakesAll taking old (k.channel frame) (without_idle (k.ended before frame)) new
   pub brings : Brings k before frame report
 
--- These frames were processed, as `had` says, and these are their counts, with this number of anomalies. Frames
--- and anomalies together are no more than the octets of the frames.
+-- These frames were processed (`had` holds of them: the state is the one after them), and these are their counts, with
+-- this number of anomalies. Anomalies and frames together are no more than the octets of the frames: after the last
+-- one `check` has at most as many lines of what is incomplete as there are frames, and the count still fits.
 pub record HasDelivered (k : Kind) (had : List (List ℕ) → Type 0) (frames : List (List ℕ)) (anomalies : ℕ)
     (t : Counts) : Type 0 where
   pub processed : had frames
@@ -118,7 +120,7 @@ pub record AreStored (k : Kind) (frames : List (List ℕ)) (lists : List (List (
       → slice_index_or lists channel [] ≡ without_idle (k.packets frames channel)
   pub none_past : (channel : ℕ) → k.channel_limit ≤ channel → slice_index_or lists channel [] ≡ []
 
--- memory may be refused at the last of these frames: for what is incomplete before or after it, or
--- since they deliver a packet
+-- Memory may be refused at the last of these frames: for what is incomplete before or after it, or since packets of
+-- any of these frames are stored.
 abbrev pub MayRefuseMemory : Kind → (List (List ℕ) → Type 0) → List (List ℕ) → Type 0
 MayRefuseMemory k is_incomplete_at_last frames = is_incomplete_at_last frames ⊎ (0 < number_of_packets k frames)

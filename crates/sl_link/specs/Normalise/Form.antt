@@ -16,7 +16,7 @@ use Rattle.sl_link.specs.Tally.{listing_counts}
 abbrev pub form_text : Kind → (List (List (List ℕ)) → List ℕ) → List ℕ → List ℕ
 form_text k form_of recording = form_of (recorded_packets k recording)
 
--- the lists of the channels, of all that are stored
+-- the first lists of those that are stored, one for each channel of the kind
 abbrev pub listed : Kind → List (List (List ℕ)) → List (List (List ℕ))
 listed k lists = take k.channel_limit lists
 

@@ -7,7 +7,7 @@ use Rattle.sl_tmframe.specs.TmFraming.{TmFraming}
 use Rattle.sl_tmframe.proofs.DelimitedLemmas.{frames_of-first}
 use Rattle.sl_link.specs.Link.Managed.{Parameters}
 
--- octets of the managed length
+-- that octets have the managed length, which isn't 0
 abbrev pub is_tm_frame : Parameters → List ℕ → Type 0
 is_tm_frame p frame = (0 < p.tm_length) × (length frame ≡ p.tm_length)
 
@@ -21,7 +21,7 @@ pub record TmWaits (f : TmFraming) (p : Parameters) (rest : List ℕ) : Type 0 w
   pub rest_is : f.rest ≡ rest
   pub short : length rest < p.tm_length
 
--- ---- two proofs, which the `Framer` of TM frames hands to its callers
+-- ---- Two proofs, which the `Framer` of TM frames hands to its callers: they are members of its `impl`.
 
 -- a frame at the front is the first one
 pub tm_front_is_first : (p : Parameters) (frame more : List ℕ) → is_tm_frame p frame

@@ -31,7 +31,7 @@ use Rattle.sl_link.specs.declared.engine.VerbName.TheVariants.{Show, Check, Pack
 
 -- ---- the arguments
 
--- `KIND`: one of these names, which lie somewhere in memory
+-- `KIND`: one of these names. They are lent texts, each with the address where it lies.
 abbrev pub kind_rule : Bor (List (Bor Text)) → Rule
 kind_rule kinds = record (new_rule (codes "kind")) {
   value_names = 1;
@@ -127,7 +127,9 @@ sllink_with kinds = record {
       ∷ [];
 }
 
--- ---- where the names of the kinds lie in memory
+-- ---- The command line, of which the names of the kinds lie somewhere in memory. What the words ask for is computed
+-- from `sllink_app`, where they lie at address 0. What the program builds is `IsSllink`, wherever they lie: that makes
+-- no difference.
 
 -- where something lies in memory
 abbrev pub Address : Type 0
@@ -140,7 +142,7 @@ kinds_at list tm tc = record {
   now = record { ref_ptr = tm; now = codes "tm" } ∷ record { ref_ptr = tc; now = codes "tc" } ∷ [];
 }
 
--- the same at one place: where they lie makes no difference
+-- the same at address 0
 abbrev pub recording_kinds : Bor (List (Bor Text))
 recording_kinds = kinds_at (0, 0) (0, 0) (0, 0)
 
@@ -158,7 +160,8 @@ pub record IsSllink (app : App) : Type 0 where
 -- ---- what the words ask for
 
 -- Each definition here answers for any words: `Normalise` for another verb, `Tc` for another kind or none, 0 where an
--- option has no number that fits. Where nothing of the words is refused, no such case comes up: `is_complete`.
+-- option has no number that fits. Where nothing of the words is refused, no such case comes up: `is_complete`. Of an
+-- argument `first_of` gives the text as it stands, and `one_of` as `clap` hands it on: a -0 without its minus sign.
 
 -- the verb of that name
 abbrev pub verb_named : Text → VerbName
@@ -176,7 +179,8 @@ kind_named kind = if option_map_or (λ name. bytes_eq name (codes "tm")) kind fa
 abbrev pub kind_in : List Row → RecordingKind
 kind_in rows = kind_named (first_of (codes "kind") rows)
 
--- the text writes a decimal number, `most` at most
+-- The text, as `clap` hands it on and so without a minus sign, writes a decimal number, `most` at most. (`false` says
+-- that upper and lower case differ, which makes no difference to numbers.)
 abbrev pub writes_number : ℕ → Text → Bool
 writes_number most = accepts false (Unsigned 0 most)
 
@@ -239,8 +243,10 @@ plain_in rows = first_of (codes "plain") rows
 abbrev pub starts_in : List Row → Option Text
 starts_in rows = first_of (codes "vr-of") rows
 
+-- Here and below, `Lists 0 text` lists numbers from 0 on, which rise.
+
 -- The virtual channels of TC frames without segment headers, by the text of an option: none where
--- it is left out. Else they are what the text lists, and there is no set where it lists none.
+-- it is left out. Else they are what the text lists; where the text is no list, it is refused (`None`).
 abbrev pub IsPlain : Option Text → Option (List ℕ) → Type 0
 IsPlain None plain = plain ≡ Some []
 IsPlain (Some text) plain =
@@ -248,7 +254,8 @@ IsPlain (Some text) plain =
     × ((vcs : List ℕ) → vc_set.Lists 0 text vcs → plain ≡ Some vcs)
 
 -- The initial V(R) of the virtual channels, by the text of an option: this V(R) for all that it
--- doesn't name, and no starts where the text lists none.
+-- doesn't name. A text that is no list is refused (`None`). Where there is an answer, the text lists some items, and
+-- these are laid over the starts (`AreNamed`); and where the text lists items, that is the answer.
 abbrev pub AreFrom : ℕ → Option Text → Option (List ℕ) → Type 0
 AreFrom vr None named = named ≡ Some (replicate 64 vr)
 AreFrom vr (Some text) named =
@@ -279,7 +286,8 @@ pub record Asks (verb : Text) (rows : List Row) (asked : Asked) : Type 0 where
 -- ---- what becomes of the words
 
 -- why the words are refused: the kinds that the first fault in them may have, none where they are taken.
--- At the word `help` they are two, help and an unknown subcommand, whatever follows.
+-- At the word `help` they are two, help and an unknown subcommand, whatever follows: the contract of the crate `clap`
+-- leaves open there which of the two it is, and so does that of `run`. Tests pin it.
 abbrev pub refusals : List Text → Kinds
 refusals words = fault_of sllink_app words
 

@@ -14,14 +14,15 @@ Frames = List (List ℕ)
 
 -- ---- listings
 
--- A listing: the lines of a frame that comes after others, those after all frames, with the octets of the remainder,
--- and what is counted then.
+-- A listing: the lines of a frame that comes after others, as octets, those after all frames, with the number of octets
+-- of the remainder, and what is counted then.
 pub record Listing : Type 0 where
   pub line : Frames → List ℕ → List ℕ
   pub last : Frames → ℕ → List ℕ
   pub counts : Frames → ℕ → Counts
 
--- the lines of frames that come after `before`, as octets or as a list of lines
+-- What `line` gives for each of the frames, put together in their order; they come after `before`. It gives octets, or
+-- a list of lines.
 abbrev pub lines_from : {X : Type 0} → (Frames → List ℕ → List X) → Frames → Frames → List X
 lines_from line before [] = []
 lines_from line before (frame ∷ frames) = line before frame ++ lines_from line (before ++ frame ∷ []) frames

@@ -122,7 +122,7 @@ impl Lines {
         }
     }
 
-    // Adds a number of more than two digits.
+    // Adds a number that isn't an octet, of three digits or more.
     fn push_long(&mut self, number: u64)
         requires room { HasRoomFor number_width self.old }
         requires long { 100 ≤ number }

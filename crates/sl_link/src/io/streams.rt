@@ -16,7 +16,8 @@ pub fn read_some<R: Read>(
     limit: u64,
 ) -> Result<usize, LinkFault>
     ensures came { IfOk result (ReadsSome R.remaining reader.old reader.new buffer.new limit) }
-    // At `TooLong` more octets came than the limit, and no more than the buffer holds.
+    // At `TooLong` more octets came than the argument `limit`, and no more than the buffer holds:
+    // so many octets more as the last number of the clause says.
     ensures fault { IfErr result
         (StopsReading R.remaining reader.old reader.new limit (length buffer.new - limit)) }
     // At `Read` no octets came.

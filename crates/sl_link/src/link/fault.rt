@@ -7,11 +7,12 @@ use thiserror::Error;
 
 /// Why an engine stopped before its work was done.
 ///
-/// The engines' clauses `fault` say less than the sentences here. An engine answers `Read` only
-/// where the reader, and `Write` only where the writer, had a fault or a count of faults of
-/// 2^64 - 1. It answers `TooLong` only where more octets than the managed limit were read; where no
-/// contract can name the reader's octets, nothing is claimed of that. No clause can say that memory
-/// was refused.
+/// The engines' clauses on faults (`fault`, and `stopped` of `run_engine`) say less than the
+/// sentences here. They know of a fault by the stream's count of faults, which stops at 2^64 - 1.
+/// So an engine answers `Read` only where the reader, and `Write` only where the writer, had a
+/// fault, or its count stood at 2^64 - 1 already. It answers `TooLong` only where more octets than
+/// the managed limit were read; where no contract can name the reader's octets, nothing is claimed
+/// of that. No clause can say that memory was refused.
 #[derive(Clone, Copy, Debug, PartialEq, Eq, Error)]
 pub enum LinkFault {
     /// The reader answered an error.
@@ -35,8 +36,8 @@ impl From<FlowFault> for LinkFault {
     ghost from_gives = { λ fault e. e ≡ flow_fault fault };
 
     /// The fault of an engine that couldn't hand packets on to its sink: `Memory` where memory was
-    /// refused, or an earlier call had failed (`FlowFault::Failed`), and `Write` where the sink
-    /// failed for another reason.
+    /// refused, and `Write` where the sink failed for another reason. `FlowFault::Failed`, after an
+    /// earlier fault, never comes, as no engine goes on after one; it would be `Memory` too.
     fn from(fault: FlowFault) -> LinkFault {
         match fault {
             FlowFault::Sink(fault) => of_sink(fault),

@@ -122,10 +122,10 @@ impl Managed {
 
     /// The spacecraft identifier, 0 to 1023.
     ///
-    /// Every `Managed` meets the premise of the [`laws`](crate::laws) on normal forms: none of its
-    /// parameters is refused, and the initial V(R) of each virtual channel is one octet. The width
-    /// of its window is at most 254, as the laws on FARM-1's runs and on the order of frames want
-    /// it.
+    /// Two clauses aren't about this value. They say what holds of every `Managed`, so that callers
+    /// can use the [`laws`](crate::laws). The laws on normal forms want that no parameter is
+    /// refused, and that the initial V(R) of each virtual channel is one octet. The laws on
+    /// FARM-1's runs and on the order of frames want a window of a width of 254 at most.
     pub fn spacecraft(&self) -> u16
         ensures value { result ≡ self.now.spacecraft }
         ensures accepted { AreAccepted self.now }

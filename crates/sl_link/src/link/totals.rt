@@ -3,7 +3,8 @@ ghost use Rattle.std.specs.Prelude.{◌≡◌, ◌≤◌};
 
 use std::marker::Model;
 
-/// What an engine counted in a recording. No count is above the octets.
+/// What an engine counted in a recording. No count is above the octets. How engines count is in
+/// tally.rt.
 #[derive(Clone, Copy, Debug, PartialEq, Eq)]
 pub struct Totals {
     pub(crate) octets: u64,

@@ -22,7 +22,7 @@ const FORM_SIZE: usize = 0x40000;
 pub trait Form {
     ghost use Rattle.std.specs.Prelude.{◌≡◌, ◌≢◌, ◌+◌, ◌≤◌, ◌<◌, ℕ, List, [], IfErr, IfOk, OnOk, OnErr, IsTrue, IsFalse, vec_len};
     ghost use Rattle.std.specs.Vec.{vec_capacity};
-    // That of TC forms says as much and more.
+    // One definition for both kinds; `sl_tcflow` has an `AddsPiece` of its own, which implies it.
     ghost use Rattle.sl_tmflow.specs.Form.{AddsPiece};
     ghost use Rattle.sl_link.specs.Normalise.Form.{piece_size};
     ghost use Rattle.sl_link.specs.declared.link.fault.LinkFault.{LinkFault};
@@ -34,7 +34,8 @@ pub trait Form {
     ghost ready: { Self → Type 0 };
 
     /// Adds the next piece to a text, and answers whether there was one. Memory is refused only
-    /// where a piece is left: to a form that isn't ready, or whose text has no room for a piece.
+    /// where a piece is left, and never to a form that is ready and whose text has room for a
+    /// piece.
     fn next(&mut self, text: &mut Vec<u8>) -> Result<bool, LinkFault>
         ensures piece { IfOk result (λ some. IsTrue some
             → AddsPiece (left self.old) text.old.items (left self.new) text.new.items) }
@@ -48,7 +49,8 @@ pub trait Form {
         ensures capacity { vec_capacity text.old ≤ vec_capacity text.new };
 
     /// Takes the memory that the form wants for itself. The text has room for a piece, and keeps
-    /// its octets.
+    /// its octets. It is an argument because `TmForm::reserve`, which a TM form calls, sees to room
+    /// in the text as well; here the text has that room already.
     fn reserve(&mut self, text: &mut Vec<u8>) -> Result<(), LinkFault>
         requires room { vec_len text.old + piece_size ≤ vec_capacity text.old }
         ensures ready { OnOk result (ready self.new) }

@@ -19,6 +19,9 @@ pub trait Framer {
 
     /// Takes octets from the front of the chunk up to the end of a frame, and lends that frame.
     /// `None` where the chunk completes no frame: all its octets then wait for the next chunk.
+    // Each clause holds for all octets `rest` that may have waited in the framer (`WaitsFor`). The
+    // last one is of the time when the lent frame is given back: which octets wait then. An
+    // ordinary clause can't say that, as the framer is still lent when the call returns.
     fn next_frame<'a, 'p: 'a>(&'a mut self, chunk: &mut &'p [u8]) -> Option<&'a [u8]>
         requires { (p : Parameters) × (rest : List ℕ) × waits self.old p rest }
         ensures frame { IfSome result (λ frame. WaitsFor waits self.old

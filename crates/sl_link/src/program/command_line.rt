@@ -138,7 +138,8 @@ fn without_verbs<'a>(alloc: Global) -> Command<'a>
         .subcommand_required(true)
 }
 
-// A verb before it has arguments, with what its help says.
+// A verb before it has arguments, with what its help says. It has no global arguments, those that
+// a command's subcommands take too: what `clap` says of parsed words wants that.
 fn bare_verb<'a>(alloc: Global, name: &'a str, about: &'a str, example: &'a str) -> Command<'a>
     ensures app { app_of result ≡ new_app name.entry.now }
     ensures local { (fields_of result).has_globals ≡ false }
@@ -225,14 +226,14 @@ fn text<'a>(alloc: Global, name: &'a str, unit: &'a str, help: &'a str) -> Arg<'
     Arg::new(alloc, name).long(name).value_name(unit).help(help)
 }
 
-// The option, which takes a number then, and which no command line may leave out.
+// This option, with a number as its value. No command line may leave it out.
 fn needed_number<'a>(option: Arg<'a>, range: ValueParser<'a>) -> Arg<'a>
     ensures { rule_of result ≡ needed (with_numbers (rule_of option.entry) range.entry) }
 {
     number(option, range).required(true)
 }
 
-// The option, which takes a number then, and has this one where it is left out.
+// This option, with a number as its value, and this number where it is left out.
 fn number_or<'a>(option: Arg<'a>, range: ValueParser<'a>, default: &'a str) -> Arg<'a>
     ensures { rule_of result
         ≡ with_default (with_numbers (rule_of option.entry) range.entry) default.entry.now }
@@ -240,7 +241,7 @@ fn number_or<'a>(option: Arg<'a>, range: ValueParser<'a>, default: &'a str) -> A
     number(option, range).default_value(default)
 }
 
-// The option, which takes a number then, in place of any text.
+// This option, with a number as its value in place of any text.
 fn number<'a>(option: Arg<'a>, range: ValueParser<'a>) -> Arg<'a>
     ensures { rule_of result ≡ with_numbers (rule_of option.entry) range.entry }
 {

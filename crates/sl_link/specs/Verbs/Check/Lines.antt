@@ -27,7 +27,8 @@ event_anomaly offset vc map_id event holds octets =
 
 -- ---- what comes after the frames
 
--- the line of a remainder, by where it begins and how many octets it has, where there is one
+-- the line of a remainder, by where it begins and how many octets it has, where there is one (the same line as `show`
+-- has)
 abbrev pub remainder_anomaly : ℕ → ℕ → List (List ℕ)
 remainder_anomaly offset octets = if octets == 0 then [] else line_at offset (codes " rest " ++ decimal octets) ∷ []
 

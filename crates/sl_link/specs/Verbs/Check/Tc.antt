@@ -39,7 +39,7 @@ discarded_anomaly offset found (Some ns) =
 -- The lines of a frame at this offset, in their order, by what is found of it: FARM-1 discards the
 -- frame; a segment is out of sequence; an incomplete series is dropped, by how many octets of it had
 -- come; a series is given up, since it is too long; octets are left after the last packet of a service
--- data unit.
+-- data unit. What is found of a frame never gives all five: a frame that is discarded has no other line.
 abbrev pub tc_lines : ℕ → Result TcFinding TcSkip → List (List ℕ)
 tc_lines offset (Ok found) =
     (if discards found.verdict then discarded_anomaly offset found found.ns else [])

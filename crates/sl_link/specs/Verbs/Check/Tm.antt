@@ -38,7 +38,8 @@ tm_lines offset (Err reason) = line_at offset (codes " skip " ++ tm_skip_word re
 abbrev pub tm_anomalies_after : Parameters → List (List ℕ) → List ℕ → List (List ℕ)
 tm_anomalies_after p = anomalies_by tm_lines (tm_found p)
 
--- the line of the packet that is incomplete after the last frame of a virtual channel, if one is
+-- the line of the packet that is incomplete after the last frame of a virtual channel, if one is: here
+-- `incomplete_of`, of `sl_tmflow`, is a list of one packet or none
 abbrev pub tm_open : Parameters → ℕ → List (List ℕ) → ℕ → List (List ℕ)
 tm_open p offset frames vc =
     map (λ octets. event_line offset vc None (codes " open") (Some (length octets)))

@@ -7,11 +7,12 @@ use Rattle.sl_fields.specs.PacketHeader.{PacketFields, packet_header}
 use Rattle.sl_link.specs.Kind.Delivery.{Kind, counts_in}
 use Rattle.sl_link.specs.Verbs.Listing.{Listing}
 
--- the primary header: its fields from the secondary header flag on, and then all of them
+-- the fields of the primary header from the secondary header flag on
 abbrev pub numbers_text : PacketFields → List ℕ
 numbers_text h = codes " secondary " ++ decimal (bit_of h.secondary) ++ codes " flags " ++ decimal h.flags
     ++ codes " count " ++ decimal h.count
 
+-- all fields of the primary header
 abbrev pub header_text : PacketFields → List ℕ
 header_text h = codes " apid " ++ decimal h.apid ++ codes " type " ++ decimal h.kind ++ numbers_text h
 

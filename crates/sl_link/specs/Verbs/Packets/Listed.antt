@@ -37,7 +37,7 @@ abbrev pub TmPacketsAreListed : Type 0
 TmPacketsAreListed = (p : Parameters) (recording : List ℕ)
     → ListsPackets tm_channel_text (tm_packets p recording) (packets_tm_text p recording)
 
--- The same of a TC recording, on each virtual channel and MAP.
+-- The same of a TC recording, on each virtual channel and MAP, whose channel has one number.
 abbrev pub TcPacketsAreListed : Type 0
 TcPacketsAreListed = (p : Parameters) (recording : List ℕ)
     → ListsPackets tc_channel_name (tc_packets p recording) (packets_tc_text p recording)

@@ -16,9 +16,10 @@ channel_name Map = tc_channel_name
 
 -- the lines of packets on a channel
 abbrev pub lines_on : ChannelKind → ℕ → List (List ℕ) → List ℕ
-lines_on kind channel packets = concat (map (packet_line (channel_name kind channel)) packets)
+lines_on names channel packets = concat (map (packet_line (channel_name names channel)) packets)
 
--- these are the lines of the packets that end in a frame that comes after others, idle ones left out
+-- these are the lines of the packets that end in a frame of kind `k` that comes after others, idle ones left out;
+-- `names` says how a line names its channel
 abbrev pub ArePrinted : Kind → ChannelKind → (List (List ℕ) → List ℕ → List ℕ) → Type 0
-ArePrinted k kind lines = (before : List (List ℕ)) (frame : List ℕ)
-    → lines before frame ≡ lines_on kind (k.channel frame) (without_idle (k.ended before frame))
+ArePrinted k names lines = (before : List (List ℕ)) (frame : List ℕ)
+    → lines before frame ≡ lines_on names (k.channel frame) (without_idle (k.ended before frame))

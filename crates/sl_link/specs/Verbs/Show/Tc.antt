@@ -28,13 +28,14 @@ flags_word flags =
     else if flags == 2 then codes "last"
     else codes "whole"
 
--- a unit: its segment header and how many octets follow; or, without segment header, how many octets it has
+-- a unit with a segment header: the header, and how many octets follow
 abbrev pub segment_text : List ℕ → List ℕ
 segment_text unit =
     codes " segment " ++ flags_word (header_at unit).flags
     ++ codes " map " ++ decimal (header_at unit).map
     ++ codes " octets " ++ decimal (length unit - 1)
 
+-- a unit, without a segment header (`plain`) or with it
 abbrev pub unit_text : Bool → List ℕ → List ℕ
 unit_text plain unit = if plain then codes " unit octets " ++ decimal (length unit) else segment_text unit
 

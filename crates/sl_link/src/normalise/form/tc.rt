@@ -6,6 +6,7 @@ use sl_tcflow::TcForm;
 impl<'d> Form for TcForm<'d> {
     ghost use Rattle.std.specs.Prelude.{⊤};
 
+    // In clauses a `TcForm` is itself the octets that are still to come.
     ghost left = { λ form. form };
 
     ghost ready = { λ form. ⊤ };

@@ -30,21 +30,24 @@ pub trait Checked: Delivery {
         requires { HasRoom lines.old }
         ensures text { lines.new ≡ lines.old ++ concat (lines_of offset found) }
         ensures number { result ≡ length (lines_of offset found) }
-        // A frame of five octets or more has fewer lines than octets.
+        // Not about this call: a frame of five octets or more has fewer lines than octets. Framers
+        // cut no shorter ones.
         ensures few { (p : Parameters) (before : List (List ℕ)) (frame : List ℕ)
             → Self.is_frame p frame → 5 ≤ length frame
             → length (lines_of offset (Self.found p before frame)) < length frame };
 
-    /// How many channels there are.
+    /// How many channels there are, under any parameters.
     ghost channel_limit: { ℕ };
 
-    /// The number of a channel: nothing is incomplete on this channel, nor on one of a greater
-    /// number.
+    /// A bound: on the channels from this number on, if there are any, nothing is incomplete. So a
+    /// caller looks at the channels below it alone. Clauses `all` and `few` aren't about the bound:
+    /// they say what holds of every kind here, for the same caller.
     fn open_below(&self) -> u16
         ensures most { result ≤ channel_limit }
         ensures none { (p : Parameters) (offset : ℕ) (frames : List (List ℕ))
             → Self.has_processed self.now p frames → (channel : ℕ) → result ≤ channel
             → channel < channel_limit → open_at p offset frames channel ≡ [] }
+        // The kind has as many channels as stated here.
         ensures all { (p : Parameters) → (Self.kind p).channel_limit ≡ channel_limit }
         // What is incomplete after frames is no more than the frames.
         ensures few { (p : Parameters) (offset : ℕ) (frames : List (List ℕ))

@@ -1,5 +1,6 @@
 //! The lines of the anomalies of a recording, whatever kind its frames are: events of its frames,
-//! the remainder, and the totals.
+//! the remainder, and the totals. An event is an anomaly whose line has a word, a channel, and at
+//! most a number of octets; a gap, a skip and a discarded frame have lines of their own.
 ghost use Rattle.std.specs.Prelude.{◌≡◌, ◌+◌, ◌≤◌, ◌++◌, length, decimal};
 ghost use Rattle.std.specs.List.{concat};
 ghost use Rattle.sl_link.specs.Io.Room.{HasRoom, HasRoomFor, event_width, line_width, number_width};

@@ -26,7 +26,8 @@ pub enum ChannelKind {
 pub struct Printer<'a, 'b, W: Write> {
     pub out: &'a mut Output<'b, W>,
     pub kind: ChannelKind,
-    // How many packets couldn't be printed, 2^64 - 1 at most.
+    // How many packets couldn't be printed, 2^64 - 1 at most. `PacketSink` wants this count; no
+    // call reads it.
     pub failures: u64,
 }
 

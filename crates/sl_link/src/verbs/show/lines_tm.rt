@@ -74,13 +74,14 @@ fn push_control(lines: &mut Lines, control: Option<[u8; 4]>)
     }
 }
 
-// Adds an operational control field: a CLCW, unless its first bit is 1.
+// Adds an operational control field: a CLCW, unless its first bit, the control word type, is 1.
 fn push_word(lines: &mut Lines, word: &[u8; 4])
     requires { HasRoomFor part_width lines.old }
     ensures text { lines.new ≡ lines.old ++ word_text word.now }
     ensures short { length lines.new ≤ length lines.old + part_width }
 {
     let clcw = Clcw::read(word);
+    // the control word type
     if clcw.word() == 1 {
         lines.push(b" ocf ");
         lines.push_hex_word(word);

@@ -31,14 +31,16 @@ pub trait Shown: Drop {
     fn begin(managed: &Managed) -> Self
         ensures { has_shown result managed.now [] };
 
-    /// Adds the line of the next frame, but for its offset, which was added before, and answers
+    /// Adds the line of the next frame to the lines, which end with its offset already. Answers
     /// whether the frame is skipped.
     fn show(&mut self, managed: &Managed, frame: &[u8], lines: &mut Lines) -> bool
         requires before { (before : List (List ℕ)) × has_shown self.old managed.now before
             × is_frame managed.now frame.now }
         requires room { HasRoomFor (text_width + 1) lines.old }
         ensures skipped { result ≡ is_skipped managed.now frame.now }
+        // No frame is empty: the totals want it.
         ensures some { 0 < length frame.now }
+        // The lines were some others, `start`, and the offset. Now they are `start` and the line.
         ensures line { (before : List (List ℕ)) (start : List ℕ)
             → has_shown self.old managed.now before
             → lines.old ≡ start ++ decimal (length (concat before))

@@ -18,11 +18,12 @@ with_gaps = first 0 ∷ second 9 ∷ second 1 ∷ []
 abbrev pub joined : List TmView
 joined = first 0 ∷ second 1 ∷ []
 
--- the packets of the channel, and that the packet of the other two frames isn't one of them
+-- the packets of the channel
 abbrev pub gap_packets : List (List ℕ)
 gap_packets = long ∷ packet ∷ idle ∷ packet ∷ idle ∷ []
 
-not_among : IsAmong (begun ++ remainder) gap_packets → ⊥
+-- the packet of the other two frames isn't one of them
+pub not_among : IsAmong (begun ++ remainder) gap_packets → ⊥
 not_among (inl same) = cc
 not_among (inr (inl same)) = cc
 not_among (inr (inr (inl same))) = cc
@@ -30,14 +31,13 @@ not_among (inr (inr (inr (inl same)))) = cc
 not_among (inr (inr (inr (inr (inl same))))) = cc
 not_among (inr (inr (inr (inr (inr none))))) = none
 
--- The two kept frames deliver a packet that isn't one of the channel's, although only one frame is lost.
+-- The two kept frames deliver a packet that isn't one of the channel's (`not_among`), although only one frame is lost.
 pub record GapsMatter : Type 0 where
   pub gap : HasNoGap with_gaps → ⊥
   pub few : FewAreLost (0 ∷ 2 ∷ [])
   pub frames : HaveNumbers with_gaps (0 ∷ 2 ∷ []) joined
   pub whole : packets_delivered (deliveries_of with_gaps) ≡ gap_packets
   pub left : packets_delivered (deliveries_of joined) ≡ long ∷ (begun ++ remainder) ∷ packet ∷ idle ∷ []
-  pub new : IsAmong (begun ++ remainder) gap_packets → ⊥
 
 pub gaps_matter : GapsMatter
 gaps_matter = record {
@@ -46,7 +46,6 @@ gaps_matter = record {
   frames = (stands with_gaps 0 (first 0) refl refl, (stands with_gaps 2 (second 1) refl refl, tt));
   whole = refl;
   left = refl;
-  new = not_among;
 }
 
 -- ---- idle frames

@@ -156,9 +156,10 @@ def piece_lines(pieces: Sequence[Piece]) -> List[str]:
     """The lines on pieces between which frames shift, or on the first one, where it isn't at the beginning."""
     if pieces[0][0] == 0 and len(pieces) == 1:
         return []
-    lines = listed([f"piece at {start} octets {end - start}" for start, end in pieces], "pieces")
-    return [f"frames shift: octets are missing, or too many, between {len(pieces)} pieces"
-            if len(pieces) > 1 else "the first frame isn't at the beginning", *lines]
+    within = "; all of them may lie within larger ones" * (pieces[0][0] > 0)
+    return [(f"frames shift: octets are missing, or too many, between {len(pieces)} pieces" if len(pieces) > 1
+             else "the first frame isn't at the beginning") + within,
+            *listed([f"piece at {start} octets {end - start}" for start, end in pieces], "pieces")]
 
 
 def astray(pieces: Sequence[Piece]) -> Optional[str]:

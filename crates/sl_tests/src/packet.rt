@@ -53,7 +53,7 @@ static FIRST: [(&[u8], Option<&[u8]>); 6] = [
 ];
 
 // Octets, and what they need for a packet.
-static NEEDS: [(&[u8], Need); 10] = [
+static NEEDS: [(&[u8], Need); 11] = [
     (&[], Need::Header(6)),
     (&[0x00], Need::Header(5)),
     (&[0x00, 0x03, 0xC0], Need::Header(3)),
@@ -61,6 +61,7 @@ static NEEDS: [(&[u8], Need); 10] = [
     (&VERSION_ONE, Need::Foreign),
     (&[0x00, 0x01, 0xC0, 0x00, 0x00, 0x03], Need::Octets(4)),
     (&[0x00, 0x01, 0xC0, 0x00, 0x00, 0x03, 0xAA], Need::Octets(3)),
+    (&SHORT, Need::Octets(1)),
     (&TELEMETRY, Need::Whole(10)),
     (&OCTETS, Need::Whole(10)),
     (&[0x00, 0x01, 0xC0, 0x00, 0xFF, 0xFF], Need::Octets(65536)),

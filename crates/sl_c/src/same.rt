@@ -2,7 +2,7 @@
 ghost use Rattle.std.specs.Prelude.{◌≡◌, IfOk, OnErr};
 ghost use Rattle.sl_link.specs.Kind.Tc.{tc_packets};
 ghost use Rattle.sl_link.specs.Kind.Tm.{tm_packets};
-ghost use Rattle.sl_link.specs.Same.{MayRefuseMemoryInTc, MayRefuseMemoryInTm};
+ghost use Rattle.sl_link.specs.Same.{MayRefuseStoreMemoryInTc, MayRefuseStoreMemoryInTm};
 ghost use Rattle.sl_c.specs.Answer.{Says};
 ghost use Rattle.sl_c.specs.Recording.{ComparesPackets};
 
@@ -23,7 +23,7 @@ pub extern "C" fn sllink_same_packets_tm(
     other: &[u8],
     same: &mut bool,
 ) -> u32
-    ensures { ComparesPackets tm_packets MayRefuseMemoryInTm managed.now one.now other.now
+    ensures { ComparesPackets tm_packets MayRefuseStoreMemoryInTm managed.now one.now other.now
         same.old same.new result }
 {
     let managed = match managed_for(managed, one.len().max(other.len())) {
@@ -46,7 +46,7 @@ pub extern "C" fn sllink_same_packets_tc(
     other: &[u8],
     same: &mut bool,
 ) -> u32
-    ensures { ComparesPackets tc_packets MayRefuseMemoryInTc managed.now one.now other.now
+    ensures { ComparesPackets tc_packets MayRefuseStoreMemoryInTc managed.now one.now other.now
         same.old same.new result }
 {
     let managed = match managed_for(managed, one.len().max(other.len())) {

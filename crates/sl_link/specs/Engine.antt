@@ -11,8 +11,8 @@ use Rattle.sl_link.specs.declared.link.counted.Counted.{Counted}
 use Rattle.sl_link.specs.declared.link.fault.LinkFault.{LinkFault}
 use Rattle.sl_link.specs.declared.link.fault.LinkFault.TheVariants.{Memory, Write}
 use Rattle.sl_link.specs.Io.Streams.{IsRead, TranslatesWithTotals, Stops}
-use Rattle.sl_link.specs.Kind.Tc.{IsIncompleteAtLastTc, MayRefuseMemoryTc, tc_counts}
-use Rattle.sl_link.specs.Kind.Tm.{IsIncompleteAtLastTm, MayRefuseMemoryTm, tm_counts}
+use Rattle.sl_link.specs.Kind.Tc.{IsIncompleteAtLastTc, MayRefuseStoreMemoryTc, tc_counts}
+use Rattle.sl_link.specs.Kind.Tm.{IsIncompleteAtLastTm, MayRefuseStoreMemoryTm, tm_counts}
 use Rattle.sl_link.specs.Link.Managed.{Parameters, tc_format}
 use Rattle.sl_link.specs.Link.Totals.{Counts}
 use Rattle.sl_link.specs.Normalise.Tc.{tc_normal_form}
@@ -54,16 +54,16 @@ abbrev pub engine_frames : RecordingKind → Parameters → List ℕ → List (L
 engine_frames Tm managed = tm_frames_of managed.tm_length
 engine_frames Tc managed = tc_frames_of (tc_format managed)
 
--- Where the last of some frames may want memory that is refused: nowhere for a listing of frames, and else as the
--- engine says.
+-- Memory may be refused to the engine at the last of these frames: to `show` never, to `check` and `packets` for what
+-- is incomplete, to `normalise` for stored packets too.
 abbrev pub MayRefuseEngineMemory : VerbName → RecordingKind → Parameters → List (List ℕ) → Type 0
 MayRefuseEngineMemory Show kind managed frames = ⊥
 MayRefuseEngineMemory Check Tm managed frames = IsIncompleteAtLastTm managed frames
 MayRefuseEngineMemory Check Tc managed frames = IsIncompleteAtLastTc managed frames
 MayRefuseEngineMemory Packets Tm managed frames = IsIncompleteAtLastTm managed frames
 MayRefuseEngineMemory Packets Tc managed frames = IsIncompleteAtLastTc managed frames
-MayRefuseEngineMemory Normalise Tm managed frames = MayRefuseMemoryTm managed frames
-MayRefuseEngineMemory Normalise Tc managed frames = MayRefuseMemoryTc managed frames
+MayRefuseEngineMemory Normalise Tm managed frames = MayRefuseStoreMemoryTm managed frames
+MayRefuseEngineMemory Normalise Tc managed frames = MayRefuseStoreMemoryTc managed frames
 
 module _ {R W : Type 0} (remaining : R → Option (List ℕ)) (contents : W → Option (List ℕ)) where
   -- the engine's text of a recording was written, and the totals are its counts of it

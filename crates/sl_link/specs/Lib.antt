@@ -8,7 +8,9 @@ pub mod Program
 pub mod Same
 pub mod Tally
 pub mod Verbs
--- the definitions of other crates that the public contracts rest on
+-- Definitions of other crates that the public contracts rest on, for a crate that stands on this one and doesn't name
+-- those: it reaches them by this crate's name. The crates here name all that they import from, and want no line here.
+-- Where files of two crates have one name, as `Recording` of the flow crates, one of them at most can be in the list.
 pub use Rattle.sl_cop.specs.Farm
 pub use Rattle.sl_cop.specs.FarmClcw
 pub use Rattle.sl_fields.specs.Clcw

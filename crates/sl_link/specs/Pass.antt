@@ -17,7 +17,7 @@ chunk_size = 0x10000
 
 -- ---- framers
 
--- The octets that waited, `rest`, and those from the front of a chunk are a frame. `left` is the rest of the chunk.
+-- The octets that waited, `rest`, and those from the front of a chunk are a frame. `left` is what is left of the chunk.
 pub record CutsFrame (is_frame : List ℕ → Type 0) (rest chunk left frame : List ℕ) : Type 0 where
   pub parts : rest ++ chunk ≡ frame ++ left
   pub some : length left < length chunk
@@ -63,19 +63,20 @@ pub record PassesOver {R : Type 0} (remaining : R → Option (List ℕ)) (reader
   pub all : taken (frames_of octets)
 
 -- Octets were read, and then a fault came. It came of reading, and the first frames were taken; or the
--- sink stopped at the last of these.
+-- sink stopped at the last of these. `past` is the size of the buffer, as in `Stops`.
 pub record StopsPassing {R : Type 0} (remaining : R → Option (List ℕ)) (reader reader' : Counted R)
     (frames_of : List ℕ → List (List ℕ)) (taken : List (List ℕ) → Type 0) (stopped : List (List ℕ) → LinkFault → Type 0)
-    (limit buffer : ℕ) (fault : LinkFault) : Type 0 where
+    (limit past : ℕ) (fault : LinkFault) : Type 0 where
   pub octets : List ℕ
   pub read : Reads remaining reader reader' octets
   pub first : List (List ℕ)
   pub later : List (List ℕ)
   pub in_order : frames_of octets ≡ first ++ later
-  pub cause : (taken first × (fault ≢ Memory) × IsCaused reader reader' no_stream no_stream limit buffer octets fault)
+  pub cause : (taken first × (fault ≢ Memory) × IsCaused reader reader' no_stream no_stream limit past octets fault)
       ⊎ (stopped first fault × (faults_of reader' ≡ faults_of reader) × (length octets ≤ limit))
 
--- memory may be refused at some frame of what was read
+-- Memory may be refused at some frame of what was read: `may_refuse_memory` holds of the frames up to it. Here and
+-- below this is any condition for that, such as `IsIncompleteAtLastTm`, or `MayRefuseStoreMemoryTm` for stored packets.
 pub record MayRefuseMemoryAtSome {R : Type 0} (remaining : R → Option (List ℕ)) (old new : Counted R)
     (frames_of : List ℕ → List (List ℕ)) (may_refuse_memory : List (List ℕ) → Type 0) : Type 0 where
   pub octets : List ℕ

@@ -6,8 +6,8 @@ use Rattle.sl_link.specs.declared.link.fault.LinkFault.TheVariants.{Memory, TooL
 use Rattle.sl_tcframe.specs.TcDelimited.{tc_frames_of}
 use Rattle.sl_tmframe.specs.TmDelimited.{tm_frames_of}
 use Rattle.sl_link.specs.Io.Streams.{ReadsAll}
-use Rattle.sl_link.specs.Kind.Tc.{MayRefuseMemoryTc}
-use Rattle.sl_link.specs.Kind.Tm.{MayRefuseMemoryTm}
+use Rattle.sl_link.specs.Kind.Tc.{MayRefuseStoreMemoryTc}
+use Rattle.sl_link.specs.Kind.Tm.{MayRefuseStoreMemoryTm}
 use Rattle.sl_link.specs.Link.Managed.{Parameters, tc_format}
 use Rattle.sl_link.specs.Pass.{MayRefuseMemoryIn}
 
@@ -28,10 +28,10 @@ abbrev pub StopsInMemory : ℕ → ℕ → Type 0 → LinkFault → Type 0
 StopsInMemory limit octets at_memory fault =
     ((fault ≡ TooLong) × (limit < octets)) ⊎ ((fault ≡ Memory) × (octets ≤ limit) × at_memory)
 
--- at some frame of a recording in memory a packet or a series is incomplete, before it or after it, or a packet was
--- delivered
-abbrev pub MayRefuseMemoryInTm : Parameters → List ℕ → Type 0
-MayRefuseMemoryInTm p = MayRefuseMemoryIn (tm_frames_of p.tm_length) (MayRefuseMemoryTm p)
+-- at some frame of a recording in memory a packet (TM) or a series (TC) is incomplete, before it or after it, or a
+-- packet was delivered
+abbrev pub MayRefuseStoreMemoryInTm : Parameters → List ℕ → Type 0
+MayRefuseStoreMemoryInTm p = MayRefuseMemoryIn (tm_frames_of p.tm_length) (MayRefuseStoreMemoryTm p)
 
-abbrev pub MayRefuseMemoryInTc : Parameters → List ℕ → Type 0
-MayRefuseMemoryInTc p = MayRefuseMemoryIn (tc_frames_of (tc_format p)) (MayRefuseMemoryTc p)
+abbrev pub MayRefuseStoreMemoryInTc : Parameters → List ℕ → Type 0
+MayRefuseStoreMemoryInTc p = MayRefuseMemoryIn (tc_frames_of (tc_format p)) (MayRefuseStoreMemoryTc p)

@@ -25,7 +25,7 @@ pub trait Delivery: Drop {
     ghost use Rattle.sl_link.specs.Link.Managed.{Parameters};
     ghost use Rattle.sl_link.specs.Kind.Delivery.{IsWithin, Kind};
 
-    /// What is found of a frame.
+    /// What is found of a frame: why it is skipped, or else a [`TmFound`] or a [`TcFound`].
     type Found: Copy;
 
     /// Whether octets are a frame.
@@ -171,8 +171,9 @@ impl Delivery for Extractor {
             Ok(view) => view,
             Err(reason) => return Ok((SKIPPED, Err(reason))),
         };
-        // A `match`, here and below: at this exit clauses are owed for each list of earlier frames,
-        // and `?` would have to be proved to hand on the same fault.
+        // A `match`, here and below: at this exit several clauses are owed for each list of earlier
+        // frames. With `?` each would want an answer that it hands on the same fault, as callers of
+        // `deliver` have it (`passed_up`); with `match` none does.
         let step = match self.frame(&view, sink) {
             Ok(step) => step,
             Err(fault) => return Err(fault),

@@ -67,12 +67,14 @@ pub fn show_tm<R: Read, W: Write>(
 /// Reads a recording of TC transfer frames (CCSDS 232.0-B) to its end and writes a line for each
 /// frame, with what FARM-1 of its virtual channel makes of it and the CLCW after it, and one for a
 /// remainder: a last frame that isn't whole; or, where a frame states a length that no frame can
-/// have, all octets from that frame on.
+/// have, all octets from that frame on. It takes no memory.
 ///
 /// It keeps what was read last and the lines that aren't written yet, at most 65,536 octets each,
 /// one frame at most that began in an earlier read, and the FARM-1 of 64 virtual channels. No
-/// clause says what is kept: that is seen by reading. It takes no memory: a fault is `Read`,
-/// `TooLong` or `Write`.
+/// clause says what is kept: that is seen by reading.
+///
+/// The fault is `Read` where the reader had one, `TooLong` where more octets came than the managed
+/// limit, and `Write` where the writer had one.
 pub fn show_tc<R: Read, W: Write>(
     managed: &Managed,
     reader: &mut Counted<R>,
@@ -140,7 +142,8 @@ pub fn check_tm<R: Read, W: Write>(
 ///
 /// It keeps what was read last and the lines that aren't written yet, at most 65,536 octets each,
 /// one frame at most that began in an earlier read, the FARM-1 of 64 virtual channels, and the
-/// series that is incomplete on each MAP. No clause says what is kept: that is seen by reading.
+/// series of segments that is incomplete on each MAP. No clause says what is kept: that is seen by
+/// reading.
 ///
 /// The fault is `Read` or `Write` where the reader or the writer had one, `TooLong` where more
 /// octets came than the managed limit, and `Memory` where memory was refused. Memory is refused

@@ -2,11 +2,11 @@
 ghost use Rattle.std.specs.Prelude.{◌≡◌, ◌≢◌, [], ℕ, List, IfOk, IfErr, OnOk};
 ghost use Rattle.sl_tcframe.specs.TcDelimited.{tc_frames_of};
 ghost use Rattle.sl_tmframe.specs.TmDelimited.{tm_frames_of};
-ghost use Rattle.sl_link.specs.Kind.Delivery.{AreDelivered, AreStored, MayRefuseMemory, counts_in, recorded_packets};
-ghost use Rattle.sl_link.specs.Kind.Tc.{MayRefuseMemoryTc, tc_counts, tc_packets};
-ghost use Rattle.sl_link.specs.Kind.Tm.{MayRefuseMemoryTm, tm_counts, tm_packets};
+ghost use Rattle.sl_link.specs.Kind.Delivery.{AreDelivered, AreStored, MayRefuseStoreMemory, counts_in, recorded_packets};
+ghost use Rattle.sl_link.specs.Kind.Tc.{MayRefuseStoreMemoryTc, tc_counts, tc_packets};
+ghost use Rattle.sl_link.specs.Kind.Tm.{MayRefuseStoreMemoryTm, tm_counts, tm_packets};
 ghost use Rattle.sl_link.specs.Link.Managed.{tc_format};
-ghost use Rattle.sl_link.specs.Normalise.Form.{HasSome, IsRefused, StoresAll, form_text, listed};
+ghost use Rattle.sl_link.specs.Normalise.Form.{HasSome, IsMemoryRefused, StoresAll, channel_lists, form_text};
 ghost use Rattle.sl_link.specs.Normalise.Tc.{tc_normal_form};
 ghost use Rattle.sl_link.specs.Normalise.Tm.{tm_normal_form};
 ghost use Rattle.sl_link.specs.Tally.{listing_counts};
@@ -71,7 +71,7 @@ pub fn normalise_tm<R: Read, W: Write>(
     // delivered.
     ensures memory { IfErr result (λ fault. fault ≡ LinkFault.Memory
         → MayRefuseMemoryAtSome R.remaining reader.old reader.new
-        (tm_frames_of managed.now.tm_length) (MayRefuseMemoryTm managed.now)) }
+        (tm_frames_of managed.now.tm_length) (MayRefuseStoreMemoryTm managed.now)) }
 {
     let mut framer = TmFramer::new(&managed.tm);
     normalise::<Extractor, TmFramer, R, W>(alloc, managed, &mut framer, reader, writer)
@@ -118,7 +118,7 @@ pub fn normalise_tc<R: Read, W: Write>(
     // was delivered.
     ensures memory { IfErr result (λ fault. fault ≡ LinkFault.Memory
         → MayRefuseMemoryAtSome R.remaining reader.old reader.new
-        (tc_frames_of (tc_format managed.now)) (MayRefuseMemoryTc managed.now)) }
+        (tc_frames_of (tc_format managed.now)) (MayRefuseStoreMemoryTc managed.now)) }
 {
     let mut framer = TcFramer::new(&managed.tc);
     normalise::<Receiver, TcFramer, R, W>(alloc, managed, &mut framer, reader, writer)
@@ -142,15 +142,15 @@ trait Formed: Delivery {
         requires { (recording : List ℕ) × AreStored (Self.kind managed.now)
             ((Self.kind managed.now).frames_of recording) delivered.now.lists }
         ensures written { OnOk result (WritesText W.contents writer.old writer.new
-            (form_of managed.now (listed (Self.kind managed.now) delivered.now.lists))) }
-        // The normal form delivers these packets again.
+            (form_of managed.now (channel_lists (Self.kind managed.now) delivered.now.lists))) }
+        // Not about what this call does: the normal form delivers these packets again.
         ensures delivers { recorded_packets (Self.kind managed.now)
-            (form_of managed.now (listed (Self.kind managed.now) delivered.now.lists))
-            ≡ listed (Self.kind managed.now) delivered.now.lists }
+            (form_of managed.now (channel_lists (Self.kind managed.now) delivered.now.lists))
+            ≡ channel_lists (Self.kind managed.now) delivered.now.lists }
         // Nothing is written where memory was refused, and it is refused only where there are
         // packets.
         ensures fault { IfErr result (StopsWriting W.contents writer.old writer.new
-            (form_of managed.now (listed (Self.kind managed.now) delivered.now.lists))
+            (form_of managed.now (channel_lists (Self.kind managed.now) delivered.now.lists))
             ((writer.new ≡ writer.old) × HasSome (Self.kind managed.now) delivered.now.lists)) };
 }
 
@@ -221,7 +221,7 @@ fn normalise<D: Formed, F: Framer, R: Read, W: Write>(
     ensures nothing { IfErr result (λ fault. fault ≢ LinkFault.Write → writer.new ≡ writer.old) }
     ensures memory { IfErr result (λ fault. fault ≡ LinkFault.Memory
         → MayRefuseMemoryAtSome R.remaining reader.old reader.new (D.kind managed.now).frames_of
-        (MayRefuseMemory (D.kind managed.now) (D.is_incomplete_at_last managed.now))) }
+        (MayRefuseStoreMemory (D.kind managed.now) (D.is_incomplete_at_last managed.now))) }
 {
     let (delivered, totals) = store_packets::<D, F, R>(alloc, managed, framer, reader)?;
     D::write(alloc, managed, &delivered, writer)?;
@@ -244,7 +244,7 @@ pub fn store_packets<D: Delivery, F: Framer, R: Read>(
         managed.now.max_octets chunk_size) }
     ensures memory { IfErr result (λ fault. fault ≡ LinkFault.Memory
         → MayRefuseMemoryAtSome R.remaining reader.old reader.new (D.kind managed.now).frames_of
-        (MayRefuseMemory (D.kind managed.now) (D.is_incomplete_at_last managed.now))) }
+        (MayRefuseStoreMemory (D.kind managed.now) (D.is_incomplete_at_last managed.now))) }
 {
     let mut buffer = [0; CHUNK_SIZE];
     let mut store = Store {
@@ -258,8 +258,10 @@ pub fn store_packets<D: Delivery, F: Framer, R: Read>(
         delivered,
         ..
     } = store;
-    // No anomalies are counted, after the last frame neither.
-    Ok((delivered, so_far.totals(octets - so_far.octets(), 0)))
+    Ok((
+        delivered,
+        so_far.with_remainder(octets - so_far.octets(), 0),
+    ))
 }
 
 /// Stores the packets that the frames of a recording in memory deliver.
@@ -272,11 +274,12 @@ pub fn store_packets_in_memory<D: Delivery, F: Framer>(
     requires none { F.waits framer.old managed.now [] }
     requires same { (frame : List ℕ) → F.is_frame managed.now frame → D.is_frame managed.now frame }
     requires frames { F.frames_of managed.now ≡ (D.kind managed.now).frames_of }
+    // `AreDelivered` is not about this call: it is what holds of the kind, which callers need.
     ensures all { IfOk result (λ stored. AreDelivered (D.kind managed.now)
         × AreStored (D.kind managed.now) ((D.kind managed.now).frames_of recording.now)
         stored.lists) }
-    ensures memory { IfErr result (IsRefused (MayRefuseMemoryIn (D.kind managed.now).frames_of
-        (MayRefuseMemory (D.kind managed.now) (D.is_incomplete_at_last managed.now))
+    ensures memory { IfErr result (IsMemoryRefused (MayRefuseMemoryIn (D.kind managed.now).frames_of
+        (MayRefuseStoreMemory (D.kind managed.now) (D.is_incomplete_at_last managed.now))
         recording.now)) }
 {
     let mut store = Store {
@@ -298,8 +301,8 @@ struct Store<D: Delivery> {
 }
 
 impl<D: Delivery> FrameSink for Store<D> {
-    ghost use Rattle.sl_link.specs.Kind.Delivery.{AreStored, HasDelivered, MayRefuseMemory};
-    ghost use Rattle.sl_link.specs.Normalise.Form.{IsRefused};
+    ghost use Rattle.sl_link.specs.Kind.Delivery.{AreStored, HasDelivered, MayRefuseStoreMemory};
+    ghost use Rattle.sl_link.specs.Normalise.Form.{IsMemoryRefused};
 
     ghost is_frame = { D.is_frame };
 
@@ -307,7 +310,7 @@ impl<D: Delivery> FrameSink for Store<D> {
     ghost took = { λ p start now frames. HasDelivered (D.kind p) (D.has_processed now.delivery p)
         frames 0 now.so_far × AreStored (D.kind p) frames now.delivered.lists };
 
-    ghost stopped = { λ p start now frames fault. IsRefused (MayRefuseMemory (D.kind p)
+    ghost stopped = { λ p start now frames fault. IsMemoryRefused (MayRefuseStoreMemory (D.kind p)
         (D.is_incomplete_at_last p) frames) fault };
 
     fn frame(&mut self, managed: &Managed, frame: &[u8]) -> Result<(), LinkFault> {

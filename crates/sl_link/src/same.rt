@@ -3,12 +3,12 @@ ghost use Rattle.std.specs.Prelude.{◌≡◌, ◌⊎◌, ◌↔◌, ◌≤◌, 
 ghost use Rattle.sl_tcframe.specs.TcDelimited.{tc_frames_of};
 ghost use Rattle.sl_tmframe.specs.TmDelimited.{tm_frames_of};
 ghost use Rattle.sl_link.specs.Io.Streams.{ReadsAll, StopsReading};
-ghost use Rattle.sl_link.specs.Kind.Delivery.{MayRefuseMemory, recorded_packets};
-ghost use Rattle.sl_link.specs.Kind.Tc.{MayRefuseMemoryTc, tc_packets};
-ghost use Rattle.sl_link.specs.Kind.Tm.{MayRefuseMemoryTm, tm_packets};
+ghost use Rattle.sl_link.specs.Kind.Delivery.{MayRefuseStoreMemory, recorded_packets};
+ghost use Rattle.sl_link.specs.Kind.Tc.{MayRefuseStoreMemoryTc, tc_packets};
+ghost use Rattle.sl_link.specs.Kind.Tm.{MayRefuseStoreMemoryTm, tm_packets};
 ghost use Rattle.sl_link.specs.Link.Managed.{tc_format};
 ghost use Rattle.sl_link.specs.Pass.{MayRefuseMemoryAtSome, MayRefuseMemoryIn, chunk_size};
-ghost use Rattle.sl_link.specs.Same.{ComparesPackets, MayRefuseMemoryInTc, MayRefuseMemoryInTm, StopsInMemory};
+ghost use Rattle.sl_link.specs.Same.{ComparesPackets, MayRefuseStoreMemoryInTc, MayRefuseStoreMemoryInTm, StopsInMemory};
 
 use crate::kind::Delivery;
 use crate::link::counted::Counted;
@@ -57,8 +57,8 @@ pub fn same_packets_tm<A: Read, B: Read>(
     // after it, or was delivered.
     ensures memory { IfErr result (λ fault. fault ≡ LinkFault.Memory
         → MayRefuseMemoryAtSome A.remaining one.old one.new (tm_frames_of managed.now.tm_length)
-        (MayRefuseMemoryTm managed.now) ⊎ MayRefuseMemoryAtSome B.remaining other.old other.new
-        (tm_frames_of managed.now.tm_length) (MayRefuseMemoryTm managed.now)) }
+        (MayRefuseStoreMemoryTm managed.now) ⊎ MayRefuseMemoryAtSome B.remaining other.old other.new
+        (tm_frames_of managed.now.tm_length) (MayRefuseStoreMemoryTm managed.now)) }
 {
     let framers = (TmFramer::new(&managed.tm), TmFramer::new(&managed.tm));
     same_packets::<Extractor, TmFramer, A, B>(alloc, managed, framers, one, other)
@@ -99,8 +99,8 @@ pub fn same_packets_tc<A: Read, B: Read>(
     // after it, or a packet was delivered.
     ensures memory { IfErr result (λ fault. fault ≡ LinkFault.Memory
         → MayRefuseMemoryAtSome A.remaining one.old one.new (tc_frames_of (tc_format managed.now))
-        (MayRefuseMemoryTc managed.now) ⊎ MayRefuseMemoryAtSome B.remaining other.old other.new
-        (tc_frames_of (tc_format managed.now)) (MayRefuseMemoryTc managed.now)) }
+        (MayRefuseStoreMemoryTc managed.now) ⊎ MayRefuseMemoryAtSome B.remaining other.old other.new
+        (tc_frames_of (tc_format managed.now)) (MayRefuseStoreMemoryTc managed.now)) }
 {
     let framers = (TcFramer::new(&managed.tc), TcFramer::new(&managed.tc));
     same_packets::<Receiver, TcFramer, A, B>(alloc, managed, framers, one, other)
@@ -126,9 +126,9 @@ fn same_packets<D: Delivery, F: Framer + Drop, A: Read, B: Read>(
         × StopsReading B.remaining other.old other.new managed.now.max_octets chunk_size fault)) }
     ensures memory { IfErr result (λ fault. fault ≡ LinkFault.Memory
         → MayRefuseMemoryAtSome A.remaining one.old one.new (D.kind managed.now).frames_of
-        (MayRefuseMemory (D.kind managed.now) (D.is_incomplete_at_last managed.now))
+        (MayRefuseStoreMemory (D.kind managed.now) (D.is_incomplete_at_last managed.now))
         ⊎ MayRefuseMemoryAtSome B.remaining other.old other.new (D.kind managed.now).frames_of
-        (MayRefuseMemory (D.kind managed.now) (D.is_incomplete_at_last managed.now))) }
+        (MayRefuseStoreMemory (D.kind managed.now) (D.is_incomplete_at_last managed.now))) }
 {
     let (mut framer, mut other_framer) = framers;
     let (stored, _) = store_packets::<D, F, A>(alloc, managed, &mut framer, one)?;
@@ -153,8 +153,8 @@ pub fn same_packets_in_memory_tm(
     // Memory is refused only where, in one recording, a packet is incomplete before a frame or
     // after it, or was delivered.
     ensures fault { IfErr result (StopsInMemory managed.now.max_octets
-        (max (length one.now) (length other.now)) (MayRefuseMemoryInTm managed.now one.now
-        ⊎ MayRefuseMemoryInTm managed.now other.now)) }
+        (max (length one.now) (length other.now)) (MayRefuseStoreMemoryInTm managed.now one.now
+        ⊎ MayRefuseStoreMemoryInTm managed.now other.now)) }
 {
     let framers = (TmFramer::new(&managed.tm), TmFramer::new(&managed.tm));
     same_packets_in_memory::<Extractor, TmFramer>(alloc, managed, framers, one, other)
@@ -177,8 +177,8 @@ pub fn same_packets_in_memory_tc(
     // Memory is refused only where, in one recording, a series is incomplete before a frame or
     // after it, or a packet was delivered.
     ensures fault { IfErr result (StopsInMemory managed.now.max_octets
-        (max (length one.now) (length other.now)) (MayRefuseMemoryInTc managed.now one.now
-        ⊎ MayRefuseMemoryInTc managed.now other.now)) }
+        (max (length one.now) (length other.now)) (MayRefuseStoreMemoryInTc managed.now one.now
+        ⊎ MayRefuseStoreMemoryInTc managed.now other.now)) }
 {
     let framers = (TcFramer::new(&managed.tc), TcFramer::new(&managed.tc));
     same_packets_in_memory::<Receiver, TcFramer>(alloc, managed, framers, one, other)
@@ -202,9 +202,10 @@ fn same_packets_in_memory<D: Delivery, F: Framer + Drop>(
     ensures fault { IfErr result (StopsInMemory managed.now.max_octets
         (max (length one.now) (length other.now))
         (MayRefuseMemoryIn (D.kind managed.now).frames_of
-        (MayRefuseMemory (D.kind managed.now) (D.is_incomplete_at_last managed.now)) one.now
+        (MayRefuseStoreMemory (D.kind managed.now) (D.is_incomplete_at_last managed.now)) one.now
         ⊎ MayRefuseMemoryIn (D.kind managed.now).frames_of
-        (MayRefuseMemory (D.kind managed.now) (D.is_incomplete_at_last managed.now)) other.now)) }
+        (MayRefuseStoreMemory (D.kind managed.now) (D.is_incomplete_at_last managed.now))
+        other.now)) }
 {
     let (mut framer, mut other_framer) = framers;
     if one.len().max(other.len()) as u64 > managed.max_octets {

@@ -62,9 +62,10 @@ impl Totals {
         self.anomalies += more;
     }
 
-    /// The totals of the whole recording, where these are those of its frames: its remainder has
-    /// `remainder` octets, and `more` anomalies were met after the last frame.
-    pub(crate) fn totals(&self, remainder: u64, more: u64) -> Totals
+    /// The totals of a whole recording, by these totals of its frames: it has a remainder of
+    /// `remainder` octets, and `more` anomalies were met after the last frame. `more` is 0 but in
+    /// `check`, which alone counts anomalies.
+    pub(crate) fn with_remainder(&self, remainder: u64, more: u64) -> Totals
         requires fits { self.now.octets + remainder < 2 ^ 64 }
         requires few { self.now.anomalies + more ≤ self.now.octets + remainder }
         ensures { result ≡ counts_with_remainder self.now remainder more }

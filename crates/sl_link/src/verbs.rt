@@ -46,12 +46,12 @@ pub trait Verb {
         ensures has_listed { OnOk result ((before : Frames) → has_listed self.old managed.now
             before → has_listed self.new managed.now (before ++ frame.now ∷ [])) }
         ensures lines { OnOk result ((before : Frames) → has_listed self.old managed.now before
-            → Adds W.contents out.old ((listing managed.now).line before frame.now) out.new) }
+            → Adds W.contents out.old ((listing managed.now).lines before frame.now) out.new) }
         ensures lent { OnErr result (KeepsWriter out.old out.new) }
         ensures fault { IfErr result (λ fault. (before : Frames)
             → has_listed self.old managed.now before
             → StopsWriting W.contents out.old.writer.now out.new.writer.now
-            (out.old.lines ++ (listing managed.now).line before frame.now)
+            (out.old.lines ++ (listing managed.now).lines before frame.now)
             (may_refuse_memory managed.now (before ++ frame.now ∷ [])) fault) };
 
     /// Adds the lines after the last frame of a recording of `octets` octets, and answers the
@@ -95,14 +95,14 @@ impl<'a, 'b, 'c, W: Write, V: Verb> FrameSink for Lister<'a, 'b, 'c, W, V> {
     // The verb and the output are those that were lent, and the lines of these frames were added.
     ghost took = { λ p start now frames. (now.verb.ghost_name ≡ start.verb.ghost_name)
         × (now.out.ghost_name ≡ start.out.ghost_name) × V.has_listed now.verb.now p frames
-        × Adds W.contents start.out.now (lines_from (V.listing p).line [] frames) now.out.now };
+        × Adds W.contents start.out.now (lines_from (V.listing p).lines [] frames) now.out.now };
 
     // The output and its writer are those that were lent, and a prefix of the waiting lines and
     // those of these frames was written.
     ghost stopped = { λ p start now frames fault. (now.out.ghost_name ≡ start.out.ghost_name)
         × KeepsWriter start.out.now now.out.now
         × StopsWriting W.contents start.out.now.writer.now now.out.now.writer.now
-        (start.out.now.lines ++ lines_from (V.listing p).line [] frames)
+        (start.out.now.lines ++ lines_from (V.listing p).lines [] frames)
         (V.may_refuse_memory p frames) fault };
 
     fn frame(&mut self, managed: &Managed, frame: &[u8]) -> Written {
@@ -131,8 +131,9 @@ fn list_into<F: Framer, V: Verb, R: Read, W: Write>(
         out.new.writer.now (F.frames_of managed.now) (V.listing managed.now)
         managed.now.max_octets (length buffer.old) (V.may_refuse_memory managed.now) result }
 {
-    // A copy: the prover loses a reference that was lent to a call, and the clause speaks of what
-    // it refers to. (What `verb` and `out` are after the call, the lister's clause `took` says.)
+    // A copy: `managed` is lent again after a call to which `lister`, a struct of references, was
+    // lent. After such a call the prover has lost what another reference refers to. (What `verb`
+    // and `out` are then, the lister's clause `took` says.)
     let managed = *managed;
     let mut lister = Lister { verb, out };
     let octets = read_recording(&managed, framer, &mut lister, reader, buffer)?;

@@ -1,8 +1,7 @@
 -- The units (frame data units) that FARM-1 accepts on a virtual channel, CCSDS 232.0-B and 232.1-B.
 -- Units of types AD and BD make one list, in the order of their acceptance. This is the project's
 -- own choice, which is called mission profile. In this file `w` is the width of the window, `vr` is
--- the initial V(R) of a virtual channel, and `channel` is the list of that virtual channel's frames
--- (and no number of a channel).
+-- the initial V(R) of a virtual channel, and `vc_views` is the list of that virtual channel's frames.
 use Rattle.std.specs.Prelude.{ℕ, ◌==◌, List, [], ◌∷◌, map}
 use Rattle.std.specs.Result.{result_ok}
 use Rattle.std.specs.List.{filter, filter_map}
@@ -30,11 +29,11 @@ event_of (SetVr vr) = event.SetVr vr
 
 -- the events of FARM-1 on a virtual channel, one for each of its frames
 abbrev pub events_of : List TcView → List FarmEvent
-events_of channel = map (λ view. event_of view.content) channel
+events_of vc_views = map (λ view. event_of view.content) vc_views
 
 -- the state of FARM-1 after the frames of its virtual channel
 abbrev pub farm_after : ℕ → ℕ → List TcView → FarmState
-farm_after w vr channel = state_after w (farm_start vr) (events_of channel)
+farm_after w vr vc_views = state_after w (farm_start vr) (events_of vc_views)
 
 -- the unit of a frame of type AD or BD, as a list of one or none
 abbrev pub unit_of : Content → List (List ℕ)
@@ -57,13 +56,13 @@ unit_by verdict content = if_accepted verdict (unit_of content)
 -- the units of the frames that FARM-1 accepts, in the order of acceptance; `units` says which units
 -- are wanted, as a list of one or none for each frame
 abbrev pub accepted_of : (Content → List (List ℕ)) → ℕ → ℕ → List TcView → List (List ℕ)
-accepted_of units w vr channel =
-    accepted_by (λ (view : TcView). units view.content) (verdicts_of w (farm_start vr) (events_of channel)) channel
+accepted_of units w vr vc_views =
+    accepted_by (λ (view : TcView). units view.content) (verdicts_of w (farm_start vr) (events_of vc_views)) vc_views
 
 -- the units that FARM-1 accepts, of types AD and BD in one order (mission profile)
 abbrev pub accepted_units : ℕ → ℕ → List TcView → List (List ℕ)
-accepted_units w vr channel = accepted_of unit_of w vr channel
+accepted_units w vr vc_views = accepted_of unit_of w vr vc_views
 
 -- the accepted units of type AD alone
 abbrev pub accepted_ad_units : ℕ → ℕ → List TcView → List (List ℕ)
-accepted_ad_units w vr channel = accepted_of ad_unit_of w vr channel
+accepted_ad_units w vr vc_views = accepted_of ad_unit_of w vr vc_views

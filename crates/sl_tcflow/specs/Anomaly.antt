@@ -1,9 +1,9 @@
 -- Anomalies of the segments that FARM-1 accepts, CCSDS 232.0-B: a segment is out of sequence, an
 -- incomplete series is dropped or given up, or octets are left after the last whole packet of a
 -- service data unit. Two things are the project's own choices (mission profile): the greatest
--- length of a service data unit, and that the octets after its last whole packet are dropped. Names
--- with `_of` take the segments of a MAP and the next one, and those with `_by` the parameters, the
--- frames before and the next one.
+-- length of a service data unit, and that the octets after its last whole packet are dropped. Each
+-- anomaly has two functions: one with `_of`, which takes the segments of a MAP and the next one; and
+-- one with `_by`, which takes the parameters, the frames before and the next one.
 use Rattle.std.specs.Prelude.{◌≡◌, ◌⊎◌, ℕ, ◌+◌, ◌<◌, ◌≤◌, ◌==◌, ◌&&◌, nat_le, Bool, true, false, if◌then◌else◌, List, [], ◌∷◌, ◌++◌, length, flat_map, Option, None, Some, is_none, option_map, unwrap_or}
 use Rattle.std.specs.List.{filter}
 use Rattle.sl_packet.specs.Packet.{longest_packet}
@@ -11,29 +11,29 @@ use Rattle.sl_packet.specs.Packets.{ArePacketsOf, rest_of}
 use Rattle.sl_tcframe.specs.TcFrame.{TcView}
 use Rattle.sl_tcflow.specs.Farms.{verdict_on}
 use Rattle.sl_tcflow.specs.Incomplete.{IsIncomplete, incomplete_of, exceeds_limit}
-use Rattle.sl_tcflow.specs.Receiver.{map_by, segment_by}
+use Rattle.sl_tcflow.specs.Receiver.{unit_map, segment_by}
 use Rattle.sl_tcflow.specs.Reception.{segments_of}
 use Rattle.sl_tcflow.specs.ReceptionParameters.{ReceptionParameters, is_plain}
-use Rattle.sl_tcflow.specs.Series.{begins_by, continues_by, IsSeriesOf, SeriesAt, flags_of, segment_data, past, reassembled, series_of}
+use Rattle.sl_tcflow.specs.Series.{flags_begin, flags_continue, IsSeriesOf, SeriesAt, flags_of, segment_data, past, reassembled, series_of}
 use Rattle.sl_tcflow.specs.StepReport.{StepReport}
 
 -- ---- the next segment of a MAP, after those of a list
 
 -- whether a segment is a continuing or a last one
 abbrev pub continues : List ℕ → Bool
-continues segment = continues_by (flags_of segment)
+continues segment = flags_continue (flags_of segment)
 
 -- whether a segment is a first one, or has no segmentation
 abbrev pub begins : List ℕ → Bool
-begins segment = begins_by (flags_of segment)
+begins segment = flags_begin (flags_of segment)
 
 -- how many octets so far the incomplete series has, if there is one
-abbrev pub octets_held : List (List ℕ) → Option ℕ
-octets_held list = option_map length (incomplete_of list)
+abbrev pub number_held : List (List ℕ) → Option ℕ
+number_held list = option_map length (incomplete_of list)
 
 -- how many octets so far the incomplete series has, and 0 where no series is incomplete
 abbrev pub held_of : List (List ℕ) → ℕ
-held_of list = unwrap_or (octets_held list) 0
+held_of list = unwrap_or (number_held list) 0
 
 -- whether the next segment is out of sequence: it continues a series where none is incomplete
 abbrev pub stray_of : List (List ℕ) → List ℕ → Bool
@@ -42,23 +42,24 @@ stray_of list next = continues next && is_none (incomplete_of list)
 -- how many octets so far the dropped series has, if one is dropped: one is incomplete, and the next
 -- segment begins another one
 abbrev pub dropped_of : List (List ℕ) → List ℕ → Option ℕ
-dropped_of list next = if begins next then octets_held list else None
+dropped_of list next = if begins next then number_held list else None
 
 -- whether the incomplete series is given up, because it is too long with the next segment, which
 -- continues it
 abbrev pub long_of : List (List ℕ) → List ℕ → Bool
-long_of list next = continues next && exceeds_limit (octets_held list) (length (segment_data next))
+long_of list next = continues next && exceeds_limit (number_held list) (length (segment_data next))
 
--- the octets that are left after the packets of the service data unit of a series, and none where
--- the unit is too long
-abbrev pub left_in : List (List ℕ) → List ℕ
-left_in segments = if nat_le (length (reassembled segments)) longest_packet then rest_of (reassembled segments) else []
+-- the octets that are left after the packets of a series' service data unit, and none where this
+-- service data unit is too long
+abbrev pub rest_of_series : List (List ℕ) → List ℕ
+rest_of_series segments =
+    if nat_le (length (reassembled segments)) longest_packet then rest_of (reassembled segments) else []
 
 -- how many octets are left of the service data unit that ends with the next segment, and 0 where
 -- none ends or it is too long
 abbrev pub tail_of : List (List ℕ) → List ℕ → ℕ
 tail_of list next =
-    length (flat_map (λ (s : SeriesAt). left_in s.segments)
+    length (flat_map (λ (s : SeriesAt). rest_of_series s.segments)
     (filter (λ (s : SeriesAt). past s == length list + 1) (series_of (list ++ next ∷ []))))
 
 -- ---- the anomalies as relations
@@ -85,7 +86,7 @@ pub record IsLong (list : List (List ℕ)) (next : List ℕ) : Type 0 where
   pub too_many : longest_packet < length octets + length (segment_data next)
 
 -- The next segment ends a series, whose service data unit isn't too long, and `count` octets are left
--- after the unit's packets, also where `count` is 0.
+-- after the packets of this service data unit, also where `count` is 0.
 pub record HasTail (list : List (List ℕ)) (next : List ℕ) (count : ℕ) : Type 0 where
   pub ended : SeriesAt
   pub series : IsSeriesOf (list ++ next ∷ []) ended
@@ -110,7 +111,7 @@ of_segment none told (segment ∷ segments) = told segment
 abbrev pub of_accepted :
     {X : Type 0} → X → (List (List ℕ) → List ℕ → X) → ReceptionParameters → List TcView → TcView → X
 of_accepted none told r views next =
-    of_segment none (told (segments_of r next.vc (map_by r next) views)) (segment_by r views next)
+    of_segment none (told (segments_of r next.vc (unit_map r next) views)) (segment_by r views next)
 
 -- whether the frame's unit is accepted and out of sequence
 abbrev pub stray_by : ReceptionParameters → List TcView → TcView → Bool
@@ -130,10 +131,10 @@ tail_by r views next = of_accepted 0 tail_of r views next
 
 -- What the report on the next frame says apart from packets: the verdict on the frame, the MAP of
 -- its unit, and the unit's anomalies. Only contracts of private functions cite this record.
-pub record IsReportedOf (r : ReceptionParameters) (views : List TcView) (next : TcView) (step : StepReport)
+pub record IsReportOnFrame (r : ReceptionParameters) (views : List TcView) (next : TcView) (step : StepReport)
     : Type 0 where
   pub verdict : step.verdict ≡ verdict_on r views next
-  pub map : step.map ≡ map_by r next
+  pub map : step.map ≡ unit_map r next
   pub stray : step.stray ≡ stray_by r views next
   pub dropped : step.dropped ≡ dropped_by r views next
   pub long : step.long ≡ long_by r views next

@@ -12,6 +12,6 @@ pub record FitsOn (format : TcFormat) (lists : List (List (List ℕ))) (vc : ℕ
   pub short : AllByRecursion (λ packet. length packet ≤ plain_room_of format) (slice_index_or lists (64 * vc) [])
   pub others : (map_id : ℕ) → 0 < map_id → map_id < 64 → slice_index_or lists (64 * vc + map_id) [] ≡ []
 
--- the packets of each virtual channel without segment headers (`plain`) fit in its frames
+-- the packets of each virtual channel without segment headers (`plain_vcs`) fit in its frames
 abbrev pub FitsTc : TcFormat → List ℕ → List (List (List ℕ)) → Type 0
-FitsTc format plain lists = (vc : ℕ) → vc < 64 → has_vc plain vc ≡ true → FitsOn format lists vc
+FitsTc format plain_vcs lists = (vc : ℕ) → vc < 64 → has_vc plain_vcs vc ≡ true → FitsOn format lists vc

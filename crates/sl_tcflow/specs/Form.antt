@@ -1,13 +1,14 @@
 -- A TC normal form, made piece by piece: the pieces, and the octets that are still to come, for which
 -- a `TcForm` stands. A piece is the frames of a packet. Only contracts of private functions cite
--- `piece_of` and `ns_after`. In this file `ns` is the N(S) of the next frame.
+-- `piece_of` and `ns_after`. In this file `ns` is the N(S) of the next frame, `plain` says whether a
+-- virtual channel has no segment headers, and `plain_vcs` is the virtual channels without them.
 use Rattle.std.specs.Prelude.{◌≡◌, ℕ, ◌+◌, ◌-◌, ◌*◌, ◌/◌, ◌%◌, ◌<◌, ◌≤◌, Bool, List, [], ◌++◌, length, take, drop, flat_map}
 use Rattle.std.specs.List.{concat, range_with_len, slice_index_or}
 use Rattle.sl_packet.specs.Delivered.{PacketLists, channel_count, list_at}
 use Rattle.sl_tcframe.specs.AdFrame.{segment_room_of}
 use Rattle.sl_tcframe.specs.TcFrame.{TcFormat}
 use Rattle.sl_tcframe.specs.VcSet.{has_vc}
-use Rattle.sl_tcflow.specs.TcNormalForm.{units_of_packet, units_of_maps, frames_of_units, channel_frames}
+use Rattle.sl_tcflow.specs.TcNormalForm.{units_of_packet, units_of_maps, frames_of_units, vc_frames}
 
 -- ---- pieces
 
@@ -23,9 +24,9 @@ ns_after format plain channel ns packet =
     (ns + length (units_of_packet plain (segment_room_of format) (channel % 64) packet)) % 256
 
 -- Octets enough for any piece: 2 * 65,542 + 7. A packet has at most 65,542 octets. Each of its
--- frames adds at most 8 octets of its own, and the greatest length of a frame is 16 or more. So each
--- of its frames but the last carries at least 8 octets of the packet, and a piece has at most 7
--- octets more than twice the packet.
+-- frames adds at most 8 octets of its own, and the greatest length of a frame is 16 or more, so each
+-- of its frames but the last carries at least 8 octets of the packet, and the last at least 1. So a
+-- piece has at most 7 octets more than twice the packet.
 abbrev pub piece_room : ℕ
 piece_room = 131091
 
@@ -49,24 +50,23 @@ maps_left format spacecraft plain vc map_id ns packets later =
     ++ units_of_maps plain (segment_room_of format) (map_id + 1) later))
 
 -- the octets of the `n` virtual channels from `vc` on, none of whose packets is framed yet
-abbrev pub channels_left : TcFormat → ℕ → List ℕ → List ℕ → List (List (List ℕ)) → ℕ → ℕ → List ℕ
-channels_left format spacecraft starts plain lists vc n =
+abbrev pub vcs_left : TcFormat → ℕ → List ℕ → List ℕ → List (List (List ℕ)) → ℕ → ℕ → List ℕ
+vcs_left format spacecraft starts plain_vcs lists vc n =
     concat (flat_map
-    (λ vc. channel_frames format spacecraft (has_vc plain vc) (slice_index_or starts vc 0) vc
+    (λ vc. vc_frames format spacecraft (has_vc plain_vcs vc) (slice_index_or starts vc 0) vc
     (take 64 (drop (64 * vc) lists)))
     (range_with_len vc n))
 
 -- The octets that are still to come where the packets of all channels before `channel`, and the
--- first `framed` packets of this channel, are framed already. Here `plain` is the virtual channels
--- without segment headers; above, in `piece_of` and `maps_left`, whether one is among them. Channel
--- 4096 comes after all of them, as if on virtual channel 64: its list is empty, and the last number
--- below, 63 - 64, is 0, so that no virtual channel is left.
+-- first `framed` packets of this channel, are framed already. Channel 4096 comes after all of them, as
+-- if on virtual channel 64: its list is empty, and the last number below, 63 - 64, is 0, so that no
+-- virtual channel is left.
 unfoldable pub form_left : TcFormat → ℕ → List ℕ → List ℕ → List (List (List ℕ)) → ℕ → ℕ → ℕ → List ℕ
-form_left format spacecraft starts plain lists channel framed ns =
-    maps_left format spacecraft (has_vc plain (channel / 64)) (channel / 64) (channel % 64) ns
+form_left format spacecraft starts plain_vcs lists channel framed ns =
+    maps_left format spacecraft (has_vc plain_vcs (channel / 64)) (channel / 64) (channel % 64) ns
     (drop framed (slice_index_or lists channel []))
     (take (63 - channel % 64) (drop (channel + 1) lists))
-    ++ channels_left format spacecraft starts plain lists (channel / 64 + 1) (63 - channel / 64)
+    ++ vcs_left format spacecraft starts plain_vcs lists (channel / 64 + 1) (63 - channel / 64)
 
 -- ---- places of packets
 

@@ -9,7 +9,8 @@ abbrev pub octets_to_come : Inside → List ℕ
 octets_to_come f =
     form_left f.shape f.spacecraft f.starts f.plain f.delivered.now.lists f.place.channel f.place.framed f.place.ns
 
--- the invariant of a `TcForm`
+-- the invariant of a `TcForm`: a spacecraft of ten bits, packets that frames can carry, and the place
+-- of a packet or after all packets
 pub record IsTcForm (f : Inside) : Type 0 where
   pub spacecraft : f.spacecraft ≤ 1023
   pub fits : FitsTc f.shape f.plain f.delivered.now.lists

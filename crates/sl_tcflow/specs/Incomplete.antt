@@ -1,4 +1,4 @@
--- Series of segments that are incomplete, CCSDS 232.0-B: the last first segment of a MAP, after
+-- Series of segments that are incomplete, CCSDS 232.0-B: the latest first segment of a MAP, after
 -- which continuing ones have come, or none, and no other. The greatest length of a service data
 -- unit, 65,542 octets, is the project's own choice (mission profile).
 use Rattle.std.specs.Prelude.{◌≡◌, ℕ, ◌+◌, ◌≤◌, ◌==◌, ◌&&◌, Bool, true, false, nat_le, nat_lt, if◌then◌else◌, List, [], ◌∷◌, ◌++◌, length, Option, None, Some}
@@ -50,12 +50,12 @@ incomplete_of (segment ∷ later) =
 
 -- ---- laws
 
--- A series that is reported is incomplete.
+-- A series that `incomplete_of` finds is incomplete.
 abbrev pub WhatIsToldIsIncomplete : Type 0
 WhatIsToldIsIncomplete =
     (list : List (List ℕ)) (octets : List ℕ) → incomplete_of list ≡ Some octets → IsIncomplete list octets
 
--- A series that is incomplete is reported.
+-- A series that is incomplete is found.
 abbrev pub IncompleteIsTold : Type 0
 IncompleteIsTold =
     (list : List (List ℕ)) (octets : List ℕ) → IsIncomplete list octets → incomplete_of list ≡ Some octets

@@ -9,7 +9,7 @@ abbrev pub octets_so_far : Inside → Option (List ℕ)
 octets_so_far s = if s.is_begun then Some s.octets.items else None
 
 -- The invariant of an `Incomplete`: it has at most 65,542 octets. Where no series is incomplete, it
--- has no octets, and keeps memory for at most 4096.
+-- has no octets, and keeps memory for at most 4096 (`MOST_KEPT` of the code).
 pub record IsKept (s : Inside) : Type 0 where
   pub fits : length s.octets.items ≤ longest_packet
   pub none : s.is_begun ≡ false → s.octets.items ≡ []

@@ -1,9 +1,9 @@
 pub mod AcceptedUnit
 pub mod Anomaly
-pub mod Canonical
 pub mod Farms
 pub mod Fits
 pub mod Form
+pub mod FormDelivery
 pub mod FormModel
 pub mod FormOrder
 pub mod Incomplete

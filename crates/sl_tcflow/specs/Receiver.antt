@@ -30,14 +30,15 @@ AreIncomplete r incomplete views =
     → slice_index_or incomplete (channel_at vc map_id) None ≡ incomplete_of (segments_of r vc map_id views)
 
 -- The octets so far of an incomplete series, none where there is no such series. Only contracts of
--- private functions of `sl_link` stand on this and on `held_in`.
+-- private functions of `sl_link` stand on this and on `incomplete_octets_on`.
 abbrev pub octets_of_series : Option (List ℕ) → List ℕ
 octets_of_series None = []
 octets_of_series (Some octets) = octets
 
 -- the octets so far of the series that is incomplete on a channel
-abbrev pub held_in : ReceptionParameters → List TcView → ℕ → List ℕ
-held_in r views channel = octets_of_series (incomplete_of (segments_of r (channel / 64) (channel % 64) views))
+abbrev pub incomplete_octets_on : ReceptionParameters → List TcView → ℕ → List ℕ
+incomplete_octets_on r views channel =
+    octets_of_series (incomplete_of (segments_of r (channel / 64) (channel % 64) views))
 
 -- These frames were processed, and no fault came. Other lists of frames may lead to the same state.
 pub record HasProcessed (r : ReceptionParameters) (state : ReceiverState) (views : List TcView) : Type 0 where
@@ -45,10 +46,6 @@ pub record HasProcessed (r : ReceptionParameters) (state : ReceiverState) (views
   pub plain : state.plain ≡ r.plain
   pub farms : HaveStepped r state.farms views
   pub series : AreIncomplete r state.series.list views
-
--- some frames were processed, and no fault came
-abbrev pub IsWorking : ReceiverState → Type 0
-IsWorking state = (r : ReceptionParameters) × (views : List TcView) × HasProcessed r state views
 
 -- A fault came, and FARM-1 of each virtual channel is the one after these frames.
 pub record HasFailedAfter (r : ReceptionParameters) (state : ReceiverState) (views : List TcView) : Type 0 where
@@ -75,12 +72,12 @@ map_of plain Unlock = 0
 map_of plain (SetVr vr) = 0
 
 -- the MAP of the next frame's unit
-abbrev pub map_by : ReceptionParameters → TcView → ℕ
-map_by r next = map_of (is_plain r next.vc) next.content
+abbrev pub unit_map : ReceptionParameters → TcView → ℕ
+unit_map r next = map_of (is_plain r next.vc) next.content
 
 -- the channel of the next frame's unit
 abbrev pub unit_channel : ReceptionParameters → TcView → ℕ
-unit_channel r next = channel_at next.vc (map_by r next)
+unit_channel r next = channel_at next.vc (unit_map r next)
 
 -- the segment of the next frame's unit, if the unit is accepted, as a list of one or none
 abbrev pub segment_by : ReceptionParameters → List TcView → TcView → List (List ℕ)
@@ -90,9 +87,9 @@ segment_by r views next = map (segment_in (is_plain r next.vc)) (unit_by (verdic
 -- packets included
 abbrev pub ended_by : ReceptionParameters → List TcView → TcView → List (List ℕ)
 ended_by r views next =
-    flat_map (packets_ended (segments_of r next.vc (map_by r next) views)) (segment_by r views next)
+    flat_map (packets_ended (segments_of r next.vc (unit_map r next) views)) (segment_by r views next)
 
--- The private function that takes a unit knows three values alone: `plain`, whether the next frame's
+-- The private function `take_unit` knows three values alone: `plain`, whether the next frame's
 -- virtual channel has no segment headers; `incomplete`, the series that are incomplete before that
 -- frame; and `verdict`, that of FARM-1 on it. The property holds for all parameters `r` and all
 -- earlier frames `views` that lead to these three values.
@@ -107,8 +104,8 @@ ForIncomplete plain incomplete verdict next holds =
 abbrev pub IsIncompleteAround : ReceptionParameters → List TcView → TcView → Type 0
 IsIncompleteAround r views next =
     (segment_by r views next ≢ [])
-    × ((incomplete_of (segments_of r next.vc (map_by r next) views) ≢ None)
-    ⊎ (incomplete_of (segments_of r next.vc (map_by r next) (views ++ next ∷ [])) ≢ None))
+    × ((incomplete_of (segments_of r next.vc (unit_map r next) views) ≢ None)
+    ⊎ (incomplete_of (segments_of r next.vc (unit_map r next) (views ++ next ∷ [])) ≢ None))
 
 -- ---- all frames
 

@@ -4,7 +4,7 @@
 -- comes.
 --
 -- In this file `w` is the width of the window, `vr` the initial V(R), `sent` the sent units in the
--- order of sending, and `channel` the frames of the virtual channel in the order of arrival.
+-- order of sending, and `vc_views` the frames of the virtual channel in the order of arrival.
 use Rattle.std.specs.Prelude.{◌≡◌, ◌≢◌, ℕ, ◌+◌, ◌<◌, ◌≤◌, false, List, [], ◌∷◌, ◌++◌, length, map}
 use Rattle.std.specs.List.{AllByRecursion, AllZip, slice_index_or}
 use mathlib.Core.List.{IsPrefix}
@@ -34,24 +34,24 @@ IsArrival vr sent view UnlockCommand = view.content ≡ Unlock
 
 -- the frames of a virtual channel are these arrivals, one after another
 abbrev pub AreArrivals : ℕ → List (List ℕ) → List TcView → List Arrival → Type 0
-AreArrivals vr sent channel arrivals = AllZip (IsArrival vr sent) channel arrivals
+AreArrivals vr sent vc_views arrivals = AllZip (IsArrival vr sent) vc_views arrivals
 
 -- no frame is of type BD
 abbrev pub HaveNoBd : List TcView → Type 0
-HaveNoBd channel = AllByRecursion (λ (view : TcView). (unit : List ℕ) → view.content ≢ Bd unit) channel
+HaveNoBd vc_views = AllByRecursion (λ (view : TcView). (unit : List ℕ) → view.content ≢ Bd unit) vc_views
 
 -- the number of accepted units of type AD, which is the index of the sent unit that is expected
 -- next
 abbrev pub accepted_ad_count : ℕ → ℕ → List TcView → ℕ
-accepted_ad_count w vr channel = length (accepted_ad_units w vr channel)
+accepted_ad_count w vr vc_views = length (accepted_ad_units w vr vc_views)
 
 -- the N(S) of the frame that is expected next, after these frames
 abbrev pub expected_ns : ℕ → ℕ → List TcView → ℕ
-expected_ns w vr channel = ns_of vr (accepted_ad_count w vr channel)
+expected_ns w vr vc_views = ns_of vr (accepted_ad_count w vr vc_views)
 
 -- what is read of the frames of a recording on a virtual channel; skipped frames are on none
-abbrev pub recorded_channel : TcFormat → ℕ → ℕ → List ℕ → List TcView
-recorded_channel format spacecraft vc recording = views_on vc (recorded_views format spacecraft recording)
+abbrev pub recorded_views_on : TcFormat → ℕ → ℕ → List ℕ → List TcView
+recorded_views_on format spacecraft vc recording = views_on vc (recorded_views format spacecraft recording)
 
 -- the packets that a recording delivers on a virtual channel and MAP, idle packets left out
 abbrev pub recorded_packets : TcFormat → ℕ → ReceptionParameters → ℕ → ℕ → List ℕ → List (List ℕ)
@@ -65,19 +65,19 @@ segments_sent r vc map_id sent = segments_on map_id (map (segment_in (is_plain r
 -- The frames of a virtual channel are copies of the frames that were sent, and between them frames
 -- of type BD and Unlock, but no Set V(R). Each copy, when it arrives, is less than 256 frames away
 -- from the frame that is expected next.
-pub record AreReordered (w vr : ℕ) (sent : List (List ℕ)) (channel : List TcView) (arrivals : List Arrival)
+pub record AreReordered (w vr : ℕ) (sent : List (List ℕ)) (vc_views : List TcView) (arrivals : List Arrival)
     : Type 0 where
   pub initial : vr < 256
-  pub arrive : AreArrivals vr sent channel arrivals
+  pub arrive : AreArrivals vr sent vc_views arrivals
   pub near : AreNear w vr arrivals
 
 -- The same, where each copy is in the window when it arrives, and the window has at most 256
 -- numbers.
-pub record AreReorderedInWindow (w vr : ℕ) (sent : List (List ℕ)) (channel : List TcView) (arrivals : List Arrival)
+pub record AreReorderedInWindow (w vr : ℕ) (sent : List (List ℕ)) (vc_views : List TcView) (arrivals : List Arrival)
     : Type 0 where
   pub initial : vr < 256
   pub most : positive_width w + negative_width w ≤ 256
-  pub arrive : AreArrivals vr sent channel arrivals
+  pub arrive : AreArrivals vr sent vc_views arrivals
   pub within : AreInWindow w vr arrivals
 
 -- ---- laws
@@ -86,28 +86,29 @@ pub record AreReorderedInWindow (w vr : ℕ) (sent : List (List ℕ)) (channel :
 -- the expected frame.
 abbrev pub WindowIsNear : Type 0
 WindowIsNear =
-    (w vr : ℕ) (sent : List (List ℕ)) (channel : List TcView) (arrivals : List Arrival)
-    → AreReorderedInWindow w vr sent channel arrivals
-    → AreReordered w vr sent channel arrivals
+    (w vr : ℕ) (sent : List (List ℕ)) (vc_views : List TcView) (arrivals : List Arrival)
+    → AreReorderedInWindow w vr sent vc_views arrivals
+    → AreReordered w vr sent vc_views arrivals
 
 -- The accepted units of type AD are a prefix of the sent units, for every window.
 abbrev pub UnitsInOrder : Type 0
 UnitsInOrder =
-    (w vr : ℕ) (sent : List (List ℕ)) (channel : List TcView) (arrivals : List Arrival)
-    → AreReordered w vr sent channel arrivals
-    → IsPrefix (accepted_ad_units w vr channel) sent
+    (w vr : ℕ) (sent : List (List ℕ)) (vc_views : List TcView) (arrivals : List Arrival)
+    → AreReordered w vr sent vc_views arrivals
+    → IsPrefix (accepted_ad_units w vr vc_views) sent
 
 -- V(R) is at each moment the initial V(R) plus the number of accepted units of type AD, modulo 256.
 abbrev pub VrCountsUnits : Type 0
 VrCountsUnits =
-    (w vr : ℕ) (sent : List (List ℕ)) (channel : List TcView) (arrivals : List Arrival)
-    → AreReordered w vr sent channel arrivals
-    → AtEachMoment channel (λ before. (farm_after w vr before).vr ≡ expected_ns w vr before)
+    (w vr : ℕ) (sent : List (List ℕ)) (vc_views : List TcView) (arrivals : List Arrival)
+    → AreReordered w vr sent vc_views arrivals
+    → AtEachMoment vc_views (λ before. (farm_after w vr before).vr ≡ expected_ns w vr before)
 
 -- The accepted units of type AD are all accepted units, where no frame is of type BD.
 abbrev pub AdUnitsAreAll : Type 0
 AdUnitsAreAll =
-    (w vr : ℕ) (channel : List TcView) → HaveNoBd channel → accepted_ad_units w vr channel ≡ accepted_units w vr channel
+    (w vr : ℕ) (vc_views : List TcView) → HaveNoBd vc_views
+    → accepted_ad_units w vr vc_views ≡ accepted_units w vr vc_views
 
 -- The packets of each MAP are a prefix of the packets of the sent units, where no frame is of type
 -- BD.
@@ -120,30 +121,30 @@ PacketsInOrder =
     (packets_of_segments (segments_sent r vc map_id sent))
 
 -- The packets that a recording delivers on a virtual channel and MAP are a prefix of the packets of
--- the sent units, idle packets left out on both sides, where no frame of the channel is of type BD.
--- Nothing is said of the other virtual channels.
+-- the sent units, idle packets left out on both sides, where no frame of that virtual channel is of
+-- type BD. Nothing is said of the other virtual channels.
 abbrev pub RecordedPacketsInOrder : Type 0
 RecordedPacketsInOrder =
     (format : TcFormat) (spacecraft : ℕ) (r : ReceptionParameters) (vc map_id : ℕ) (sent : List (List ℕ))
     (recording : List ℕ) (arrivals : List Arrival) → vc < 64 → map_id < 64
-    → AreReordered r.window (initial_vr r vc) sent (recorded_channel format spacecraft vc recording) arrivals
-    → HaveNoBd (recorded_channel format spacecraft vc recording)
+    → AreReordered r.window (initial_vr r vc) sent (recorded_views_on format spacecraft vc recording) arrivals
+    → HaveNoBd (recorded_views_on format spacecraft vc recording)
     → IsPrefix (recorded_packets format spacecraft r vc map_id recording)
     (without_idle (packets_of_segments (segments_sent r vc map_id sent)))
 
 -- Where each copy is in the window, the Lockout flag is never set.
 abbrev pub WindowNeverLocks : Type 0
 WindowNeverLocks =
-    (w vr : ℕ) (sent : List (List ℕ)) (channel : List TcView) (arrivals : List Arrival)
-    → AreReorderedInWindow w vr sent channel arrivals
-    → AtEachMoment channel (λ before. (farm_after w vr before).lockout ≡ false)
+    (w vr : ℕ) (sent : List (List ℕ)) (vc_views : List TcView) (arrivals : List Arrival)
+    → AreReorderedInWindow w vr sent vc_views arrivals
+    → AtEachMoment vc_views (λ before. (farm_after w vr before).lockout ≡ false)
 
 -- Where each copy is in the window, each copy of the expected frame is accepted.
 abbrev pub ExpectedUnitIsAccepted : Type 0
 ExpectedUnitIsAccepted =
-    (w vr : ℕ) (sent : List (List ℕ)) (channel : List TcView) (arrivals : List Arrival)
-    → AreReorderedInWindow w vr sent channel arrivals
-    → (before after : List TcView) (view : TcView) → channel ≡ before ++ view ∷ after
+    (w vr : ℕ) (sent : List (List ℕ)) (vc_views : List TcView) (arrivals : List Arrival)
+    → AreReorderedInWindow w vr sent vc_views arrivals
+    → (before after : List TcView) (view : TcView) → vc_views ≡ before ++ view ∷ after
     → view.content ≡ Ad (expected_ns w vr before) (unit_at sent (accepted_ad_count w vr before))
     → (farm_step w (farm_after w vr before) (event_of view.content)).0 ≡ Accept
 

@@ -32,12 +32,12 @@ abbrev pub flags_of : List ℕ → ℕ
 flags_of segment = (header_at segment).flags
 
 -- whether a segment with these flags continues a series, as a continuing or a last one
-abbrev pub continues_by : ℕ → Bool
-continues_by flags = flags == 0 || flags == 2
+abbrev pub flags_continue : ℕ → Bool
+flags_continue flags = flags == 0 || flags == 2
 
 -- whether a segment with these flags begins a series, as a first one or one with no segmentation
-abbrev pub begins_by : ℕ → Bool
-begins_by flags = flags == 1 || flags == 3
+abbrev pub flags_begin : ℕ → Bool
+flags_begin flags = flags == 1 || flags == 3
 
 -- A series is one segment with no segmentation, or a first one, continuing ones or none, and a last
 -- one.

@@ -1,8 +1,8 @@
--- The series that are incomplete on all channels. Past the end of the list no series is incomplete.
+-- The incomplete series of all channels. Past the end of the list no series is incomplete.
 use Rattle.std.specs.Prelude.{◌≡◌, ◌≢◌, ℕ, List, Option, None}
 use Rattle.std.specs.List.{slice_index_or}
 
--- The series that are incomplete, and the memory for them.
+-- The incomplete series, and for how many channels there is memory.
 pub record IncompleteSeries : Type 0 where
   -- For each channel the octets so far of its incomplete series, if there is one. The list reaches
   -- up to the greatest channel on which a first segment has come.

@@ -4,6 +4,7 @@ use Rattle.sl_packet.specs.Packet.{longest_packet}
 use Rattle.sl_tcflow.specs.StepReport.{StepReport}
 use Rattle.sl_tcflow.specs.declared.report.TcStep.TheInside.{Inside}
 
+-- what a `TcStep` stands for
 abbrev pub report_of : Inside → StepReport
 report_of s = record {
   verdict = s.verdict;

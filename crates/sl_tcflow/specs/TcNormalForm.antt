@@ -14,10 +14,9 @@ use Rattle.sl_tcflow.specs.Series.{IsSeries, header_at, reassembled, segment_dat
 abbrev pub segment_count : ℕ → List ℕ → ℕ
 segment_count room packet = (length packet + room - 1) / room
 
--- the octets of the packet in the segment with this number, from 0 on (a piece of a packet; that of a
--- form, in Form.antt, is all frames of one)
-abbrev pub piece_at : ℕ → List ℕ → ℕ → List ℕ
-piece_at room packet number = take room (drop (number * room) packet)
+-- the octets of the packet in the segment with this number, from 0 on
+abbrev pub octets_at : ℕ → List ℕ → ℕ → List ℕ
+octets_at room packet number = take room (drop (number * room) packet)
 
 -- the sequence flags of the segment with this number, from 0 on, of `count` segments
 abbrev pub flags_at : ℕ → ℕ → ℕ
@@ -29,15 +28,15 @@ flags_at count number =
 
 -- the segment with this number, on this MAP: its header, which is the sequence flags and the MAP,
 -- each with its width in bits, and its octets of the packet
-abbrev pub segment_of : ℕ → ℕ → List ℕ → ℕ → List ℕ
-segment_of room map_id packet number =
-    octets_of 1 ((2, flags_at (segment_count room packet) number) ∷ (6, map_id) ∷ []) ++ piece_at room packet number
+abbrev pub segment_at : ℕ → ℕ → List ℕ → ℕ → List ℕ
+segment_at room map_id packet number =
+    octets_of 1 ((2, flags_at (segment_count room packet) number) ∷ (6, map_id) ∷ []) ++ octets_at room packet number
 
 -- the units of a packet: its segments, or the packet itself on a virtual channel without segment
 -- headers
 abbrev pub units_of_packet : Bool → ℕ → ℕ → List ℕ → List (List ℕ)
 units_of_packet plain room map_id packet =
-    if plain then packet ∷ [] else map (segment_of room map_id packet) (range_with_len 0 (segment_count room packet))
+    if plain then packet ∷ [] else map (segment_at room map_id packet) (range_with_len 0 (segment_count room packet))
 
 -- the units of the packets of a virtual channel, from the MAP `map_id` on; there is one list of
 -- packets for each MAP
@@ -54,27 +53,28 @@ frames_of_units format spacecraft vc ns (unit ∷ units) =
 
 -- the frames of a virtual channel, with N(S) counting from its initial V(R) `vr` on; the 64 lists
 -- are those of its MAPs
-abbrev pub channel_frames : TcFormat → ℕ → Bool → ℕ → ℕ → List (List (List ℕ)) → List (List ℕ)
-channel_frames format spacecraft plain vr vc lists =
+abbrev pub vc_frames : TcFormat → ℕ → Bool → ℕ → ℕ → List (List (List ℕ)) → List (List ℕ)
+vc_frames format spacecraft plain vr vc lists =
     frames_of_units format spacecraft vc vr (units_of_maps plain (segment_room_of format) 0 lists)
 
 -- The frames of the normal form of lists of packets. The list of virtual channel v and MAP m has
 -- the index 64 v + m. N(S) counts on each virtual channel from its initial V(R) on.
 abbrev pub tc_frames_form : TcFormat → ℕ → List ℕ → List ℕ → List (List (List ℕ)) → List (List ℕ)
-tc_frames_form format spacecraft starts plain lists =
+tc_frames_form format spacecraft starts plain_vcs lists =
     flat_map
-    (λ vc. channel_frames format spacecraft (has_vc plain vc) (slice_index_or starts vc 0) vc
+    (λ vc. vc_frames format spacecraft (has_vc plain_vcs vc) (slice_index_or starts vc 0) vc
     (take 64 (drop (64 * vc) lists)))
     (range_with_len 0 64)
 
 -- the normal form of lists of packets: its frames end to end
 abbrev pub tc_normal_form_of : TcFormat → ℕ → List ℕ → List ℕ → List (List (List ℕ)) → List ℕ
-tc_normal_form_of format spacecraft starts plain lists = concat (tc_frames_form format spacecraft starts plain lists)
+tc_normal_form_of format spacecraft starts plain_vcs lists =
+    concat (tc_frames_form format spacecraft starts plain_vcs lists)
 
 -- ---- the segments of a packet
 
--- These are the octets of segments with this room: each segment is full except the last one, which
--- has one octet or more.
+-- These are the octets of segments with this room, without their headers: each segment is full except
+-- the last one, which has one octet or more.
 pub data AreSegments (room : ℕ) : List (List ℕ) → Type 0 where
   last : (octets : List ℕ) → 0 < length octets → length octets ≤ room → AreSegments room (octets ∷ [])
   full : (octets : List ℕ) (later : List (List ℕ)) → length octets ≡ room → AreSegments room later

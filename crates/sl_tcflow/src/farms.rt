@@ -30,7 +30,7 @@ impl Model for Farms {
 
 impl Farms {
     /// FARM-1 of each virtual channel before its first frame: open, with this window and with the
-    /// initial V(R) that `starts` has for the channel.
+    /// initial V(R) that `starts` has for the virtual channel.
     pub fn new(window: Window, starts: &Starts) -> Farms
         // `r` are any parameters with this window and these initial V(R). No frame was taken yet.
         ensures { (r : ReceptionParameters) → r.window ≡ window → r.starts ≡ starts.now

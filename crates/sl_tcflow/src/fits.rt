@@ -6,7 +6,7 @@ ghost use Rattle.sl_tcflow.specs.Fits.{FitsOn, FitsTc};
 use sl_packet::Delivered;
 use sl_tcframe::{TcShape, VcSet};
 
-/// Whether frames of this format (CCSDS 232.0-B) can carry the packets. `plain` has the virtual
+/// Whether frames of this `shape` (CCSDS 232.0-B) can carry the packets. `plain` has the virtual
 /// channels whose frames have no segment headers. On these, all packets are on MAP 0, and each
 /// packet has at most [`TcShape::plain_room`] octets, since one frame carries it whole. Other
 /// virtual channels can carry all packets.

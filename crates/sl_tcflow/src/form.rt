@@ -7,14 +7,15 @@ ghost use Rattle.std.specs.Vec.{vec_capacity};
 ghost use Rattle.sl_packet.specs.Delivered.{IsDeliverable, channel_count, list_at};
 ghost use Rattle.sl_tcframe.specs.AdFrame.{plain_room_of};
 ghost use Rattle.sl_tcframe.specs.TcFrame.{TcFormat};
-ghost use Rattle.sl_tcflow.specs.Canonical.{AreDeliverable};
 ghost use Rattle.sl_tcflow.specs.Fits.{FitsTc};
 ghost use Rattle.sl_tcflow.specs.Form.{IsPlace, form_left, ns_after, piece_of, AddsPiece};
 ghost use Rattle.sl_tcflow.specs.Form.{piece_room};
+ghost use Rattle.sl_tcflow.specs.FormDelivery.{AreDeliverable};
 ghost use Rattle.sl_tcflow.specs.Recording.{tc_lists};
 ghost use Rattle.sl_tcflow.specs.TcNormalForm.{tc_normal_form_of};
 
 use crate::frames::{Heading, push_packet};
+use crate::segment::CHANNELS;
 use sl_cop::Starts;
 use sl_packet::Delivered;
 use sl_tcframe::{TcShape, VcSet, push_tc_plain};
@@ -27,10 +28,6 @@ use std::marker::Model;
 /// the last carries at least 8 octets of the packet, and the last at least 1. So a piece has at
 /// most 7 octets more than twice the packet.
 pub const PIECE_ROOM: usize = 131_091;
-
-/// The number of channels, on the receiving side too. Virtual channel `v` and MAP `m` have the
-/// channel `64 * v + m`, 0 to 4095.
-pub const CHANNELS: u16 = 4096;
 
 /// The normal form of delivered packets, made piece by piece: frames of CCSDS 232.0-B of type AD in
 /// this project's own order (docs/normal-form.md). In clauses the form is the list of its octets
@@ -93,7 +90,7 @@ impl<'d> TcForm<'d> {
         // The whole normal form is still to come.
         ensures all { result ≡ tc_normal_form_of shape spacecraft starts plain delivered.now.lists }
 
-        // Read as a recording with these starts and these channels, the form delivers the packets
+        // Read as a recording with these `starts` and this `plain`, the form delivers the packets
         // again, for every window.
         ensures delivers { (w : ℕ) →
             tc_lists shape spacecraft (record { window = w; starts = starts; plain = plain }) result
@@ -220,6 +217,7 @@ fn push_piece(
     let start = form.len();
     if heading.plain {
         let vc = (heading.channel / 64) as u8;
+        // Where this one frame is refused, nothing was added (`unchanged` of `push_tc_plain`).
         push_tc_plain(form, shape, heading.spacecraft, vc, heading.ns, packet)?;
         return Ok(heading.ns.wrapping_add(1));
     }
@@ -234,14 +232,14 @@ fn push_piece(
 
 // The place of the first packet that is at the place `from` or after it. Channel 4096 where no
 // packet is left. N(S) goes on within a virtual channel. On a later virtual channel N(S) begins
-// with the channel's initial V(R).
+// with the initial V(R) of that virtual channel.
 fn next_place(delivered: &Delivered, starts: &Starts, from: Place) -> Place
     requires channel { from.channel < channel_count }
     // The octets that are still to come are the same from either place.
-    ensures left { (format : TcFormat) (spacecraft : ℕ) (plain : List ℕ)
-        → form_left format spacecraft starts.now plain delivered.now.lists
+    ensures left { (format : TcFormat) (spacecraft : ℕ) (plain_vcs : List ℕ)
+        → form_left format spacecraft starts.now plain_vcs delivered.now.lists
         from.channel from.framed from.ns
-        ≡ form_left format spacecraft starts.now plain delivered.now.lists
+        ≡ form_left format spacecraft starts.now plain_vcs delivered.now.lists
         result.channel result.framed result.ns }
 
     // The answer is the place of a packet, or the place after all packets. The lists have only

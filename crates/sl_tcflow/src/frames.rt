@@ -25,7 +25,7 @@ pub(crate) struct Heading {
 
 // Adds the frames of a packet on a virtual channel with segment headers to the end of `form`.
 // Answers the N(S) of the frame after them. (A packet on a virtual channel without them is one
-// frame, which the caller adds itself.)
+// frame, which the caller adds itself: `heading.plain` isn't read here.)
 pub(crate) fn push_packet(
     form: &mut Vec<u8>,
     shape: &TcShape,
@@ -36,8 +36,8 @@ pub(crate) fn push_packet(
     requires channel { heading.channel < channel_count }
     requires segments { heading.plain ≡ false }
     // The frames are those of the packet, and N(S) rises by one with each, modulo 256. Each segment
-    // has room for an octet of the packet at least, so the frames have at most `2 * length + 7`
-    // octets together.
+    // has room for an octet of the packet at least. The frames have at most `2 * length + 7` octets
+    // together (`PIECE_ROOM` in form.rt says why).
     ensures frames { OnOk result (form.new.items ≡ form.old.items
         ++ piece_of shape.now heading.spacecraft false heading.channel heading.ns packet.now) }
     ensures next { IfOk result (λ next. next

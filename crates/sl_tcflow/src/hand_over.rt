@@ -4,7 +4,7 @@ ghost use Rattle.sl_packet.specs.Delivered.{channel_count};
 ghost use Rattle.sl_packet.specs.Packet.{longest_packet};
 ghost use Rattle.sl_packet.specs.Packets.{packets_of};
 ghost use Rattle.sl_packet.specs.Stopping.{HandsOver};
-ghost use Rattle.sl_tcflow.specs.IncompleteSteps.{unit_report};
+ghost use Rattle.sl_tcflow.specs.IncompleteSteps.{service_unit_report};
 ghost use Rattle.sl_tcflow.specs.StepReport.{counts_of};
 
 use crate::report::{EMPTY_STEP, TcStep};
@@ -24,7 +24,7 @@ pub fn hand<S: PacketSink>(sink: &mut S, channel: u16, octets: &[u8]) -> Result<
     // packets, and how many octets are left. No fault is `Memory`.
     ensures hands_over { HandsOver S.taking S.failing S.failures counts_of
         sink.old channel (packets_of octets.now) result sink.new }
-    ensures step { IfOk result (λ step. step ≡ unit_report octets.now) }
+    ensures step { IfOk result (λ step. step ≡ service_unit_report octets.now) }
     ensures not_memory { IfErr result (λ flow. flow ≢ FlowFault.Memory) }
 {
     match hand_over(sink, channel, octets) {

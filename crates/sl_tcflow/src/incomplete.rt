@@ -6,8 +6,8 @@ ghost use Rattle.sl_packet.specs.Packet.{longest_packet};
 ghost use Rattle.sl_packet.specs.Stopping.{HandsOver};
 ghost use Rattle.sl_tcframe.specs.TcFrame.{longest_unit};
 ghost use Rattle.sl_tcflow.specs.Incomplete.{if_fits};
-ghost use Rattle.sl_tcflow.specs.IncompleteSteps.{IsReported, continued_report, extended};
-ghost use Rattle.sl_tcflow.specs.IncompleteSteps.{incomplete_with, packets_with, quiet_report};
+ghost use Rattle.sl_tcflow.specs.IncompleteSteps.{IsReportOnSegment, continued_report, extended};
+ghost use Rattle.sl_tcflow.specs.IncompleteSteps.{empty_report, incomplete_with, packets_with};
 ghost use Rattle.sl_tcflow.specs.StepReport.{counts_of};
 
 use crate::hand_over::hand;
@@ -88,7 +88,7 @@ impl Incomplete {
             sink.old segment.now.channel
             (packets_with self.old segment.now.flags segment.now.octets) result sink.new }
         ensures step { IfOk result
-            (IsReported self.old segment.now.flags segment.now.octets) }
+            (IsReportOnSegment self.old segment.now.flags segment.now.octets) }
 
         // Memory is refused only where a series is incomplete, before the segment or after it.
         ensures memory { IfErr result (λ flow. flow ≡ FlowFault.Memory → (self.old ≢ None)
@@ -100,10 +100,10 @@ impl Incomplete {
             LAST => self.end(segment.octets, segment.channel, sink),
             // `WHOLE`, no segmentation
             _ => {
-                let given_up = self.give_up();
+                let held = self.release();
                 match hand(sink, segment.channel, segment.octets) {
                     Ok(step) => Ok(TcStep {
-                        dropped: given_up,
+                        dropped: held,
                         ..step
                     }),
                     Err(flow) => Err(flow),
@@ -112,17 +112,17 @@ impl Incomplete {
         }
     }
 
-    // Begins a series with these octets, which are never too many for one (`if_fits`). Gives up the
+    // Begins a series with these octets, which are never too many for one (`if_fits`). Drops the
     // incomplete series before, if there is one.
     #[inline(always)]
     fn begin(&mut self, octets: &[u8]) -> Result<TcStep, FlowFault>
         requires { length octets.now ≤ longest_unit }
         ensures state { OnOk result (self.new ≡ if_fits octets.now) }
         ensures step { IfOk result (λ step.
-            step ≡ record quiet_report { dropped = option_map length self.old }) }
+            step ≡ record empty_report { dropped = option_map length self.old }) }
         ensures only_memory { IfErr result (λ flow. flow ≡ FlowFault.Memory) }
     {
-        let dropped = self.give_up();
+        let dropped = self.release();
         self.is_begun = true;
         match add_part(&mut self.octets, octets) {
             Ok(()) => Ok(TcStep {
@@ -153,7 +153,7 @@ impl Incomplete {
             });
         }
         if self.octets.len() + octets.len() > LONGEST_PACKET {
-            self.give_up();
+            self.release();
             return Ok(TcStep {
                 long: true,
                 ..EMPTY_STEP
@@ -180,7 +180,7 @@ impl Incomplete {
         ensures state { OnOk result (self.new ≡ None) }
         ensures hands_over { HandsOver S.taking S.failing S.failures counts_of
             sink.old channel (packets_with self.old 2 octets.now) result sink.new }
-        ensures step { IfOk result (IsReported self.old 2 octets.now) }
+        ensures step { IfOk result (IsReportOnSegment self.old 2 octets.now) }
         ensures memory { IfErr result (λ flow. flow ≡ FlowFault.Memory → self.old ≢ None) }
     {
         // `match` and not `?`: `?` converts the fault, and each clause on faults would then have to
@@ -204,18 +204,17 @@ impl Incomplete {
         ensures { self.new ≡ None }
     {
         if self.octets.capacity() > MOST_KEPT {
-            // For the memory alone: the series has ended, and isn't one that is given up.
-            self.give_up();
+            self.release();
             return;
         }
         self.is_begun = false;
         self.octets.clear();
     }
 
-    // Gives up the incomplete series, if there is one, and gives its memory back. Answers how many
-    // octets the series had so far, 0 to 65,542.
+    // Clears the series, if there is one, and gives its memory back. Answers how many octets the
+    // series had so far, 0 to 65,542.
     #[inline(always)]
-    fn give_up(&mut self) -> Option<u32>
+    fn release(&mut self) -> Option<u32>
         ensures none { self.new ≡ None }
         ensures held { result ≡ option_map length self.old }
         ensures most { IfSome result (λ held. held ≤ longest_packet) }

@@ -3,11 +3,11 @@ ghost use Rattle.sl_tcflow.specs.Anomaly.{StrayIsTold, WhatIsToldIsStray, Droppe
 ghost use Rattle.sl_tcflow.specs.Anomaly.{WhatIsToldIsDropped, LongIsTold, WhatIsToldIsLong};
 ghost use Rattle.sl_tcflow.specs.Anomaly.{TailIsTold, WhatIsToldIsTail};
 ghost use Rattle.sl_tcflow.specs.Anomaly.{NoPlainSeriesIsIncomplete, PlainUnitHasTailAlone};
-ghost use Rattle.sl_tcflow.specs.Canonical.{NormalFormIsFrames, NoFrameIsLong, NoFrameIsSkipped};
-ghost use Rattle.sl_tcflow.specs.Canonical.{NormalFormDelivers, RecordedListsAreDeliverable};
-ghost use Rattle.sl_tcflow.specs.Canonical.{RecordedListsFit};
-ghost use Rattle.sl_tcflow.specs.FormOrder.{ChannelsNeverFall, EachPacketIsOneSeries};
-ghost use Rattle.sl_tcflow.specs.FormOrder.{MapsNeverFall, NsCounts};
+ghost use Rattle.sl_tcflow.specs.FormDelivery.{NormalFormIsFrames, NoFrameIsLong, NoFrameIsSkipped};
+ghost use Rattle.sl_tcflow.specs.FormDelivery.{NormalFormDelivers, RecordedListsAreDeliverable};
+ghost use Rattle.sl_tcflow.specs.FormDelivery.{RecordedListsFit};
+ghost use Rattle.sl_tcflow.specs.FormOrder.{EachPacketIsOneSeries, MapsNeverFall};
+ghost use Rattle.sl_tcflow.specs.FormOrder.{NsCounts, VcsNeverFall};
 ghost use Rattle.sl_tcflow.specs.Incomplete.{WhatIsToldIsIncomplete, IncompleteIsTold, OneBegins};
 ghost use Rattle.sl_tcflow.specs.Incomplete.{OneIsIncomplete, IncompleteFits};
 ghost use Rattle.sl_tcflow.specs.Receiver.{DeliveredAreHandedOver};
@@ -43,8 +43,8 @@ pub fn tc_packets_are_handed_over()
     ensures { DeliveredAreHandedOver }
 {}
 
-/// What `incomplete_of` says of a list of a MAP's segments: a series that is reported as incomplete
-/// is incomplete after the last segment of the list, and a series that is incomplete is reported.
+/// What `incomplete_of` says of a list of a MAP's segments: a series that it finds is incomplete
+/// after the last segment of the list, and a series that is incomplete is found.
 /// At most one series is incomplete: any two begin at the same segment and have the same octets. An
 /// incomplete series has at most 65,542 octets.
 pub fn tc_incomplete_series_is_told()
@@ -114,15 +114,15 @@ pub fn normal_form_delivers_its_packets()
 
 /// The order of the frames of a normal form of packets that frames can carry, read as a recording.
 /// The virtual channels of the frames never fall, and on each virtual channel the MAPs never fall.
-/// Each frame is of type AD. Its N(S) is the channel's initial V(R) plus the number of frames of
-/// the channel before it, modulo 256.
+/// Each frame is of type AD. Its N(S) is the initial V(R) of its virtual channel plus the number of
+/// frames of this virtual channel before it, modulo 256.
 ///
 /// The frames of a virtual channel and a MAP carry the packets of the MAP in their order, each in a
 /// series of its own. The segments of a series are full except the last one, which has one octet or
 /// more of the packet. On a virtual channel without segment headers each packet is one frame's data
 /// field.
 pub fn normal_form_is_in_order()
-    ensures channels { ChannelsNeverFall }
+    ensures channels { VcsNeverFall }
     ensures maps { MapsNeverFall }
     ensures ns { NsCounts }
     ensures packets { EachPacketIsOneSeries }

@@ -4,22 +4,26 @@
 //!
 //! A unit is the data field of a frame of type AD or BD. On a virtual channel with segment headers
 //! a unit is a segment on the multiplexer access point (MAP) of its header. On a virtual channel
-//! without segment headers each unit counts as one unsegmented segment (sequence flags 3), which is
-//! on MAP 0, by this project's choice.
+//! without segment headers each unit counts as one segment with no segmentation (sequence flags 3),
+//! which is on MAP 0, by this project's choice.
 //!
-//! A series of segments of a MAP carries one service data unit. A series is one unsegmented
-//! segment; or a first segment, continuing ones or none, and a last one. The [`laws`] say that all
-//! series of a list of segments are found. A series is incomplete while its last segment is still
-//! to come: after its first segment, the MAP has had only continuing segments, or no segment. A
-//! series of more than 65,542 octets, the greatest length of a packet, is given up, by this
-//! project's choice.
+//! A series of segments of a MAP carries one service data unit. A series is one segment with no
+//! segmentation; or a first segment, continuing ones or none, and a last one. The [`laws`] say that
+//! all series of a list of segments are found. A series is incomplete while its last segment is
+//! still to come: after its first segment, the MAP has had only continuing segments, or no segment.
+//! An incomplete series is dropped where the next segment begins another one. A series of more than
+//! 65,542 octets, the greatest length of a packet, is given up, by this project's choice.
 //!
 //! The packets of virtual channel `v` and MAP `m` are on channel `64 * v + m`, 0 to 4095.
+//!
+//! The format of the frames, which is their greatest length and whether they have an error control
+//! field, is a [`TcShape`](sl_tcframe::TcShape); clauses call its value a `TcFormat`.
 #![tactic(auto)]
 
 // From the bottom: `segment`, `report`, `hand_over`, `incomplete`, `series_store`, `farms` and
-// `receiver` take packets out of frames; `frames`, `form`, `reframe` and `fits` write frames. The
-// number of channels, which both have, stands in `form`.
+// `receiver` take packets out of frames; `frames`, `form` and `reframe` write frames, and `fits`
+// tests which packets these can carry. A `pub fn` of these modules is public only in `laws`, or if
+// it or its type stands in a `pub use` below; specs call the others private.
 mod farms;
 mod fits;
 mod form;

@@ -6,13 +6,13 @@ ghost use Rattle.sl_packet.specs.Packets.{only_idle, without_idle};
 ghost use Rattle.sl_packet.specs.Sink.{TakesAll};
 ghost use Rattle.sl_packet.specs.Stopping.{CountsFault, HandsOver, IsStopped};
 ghost use Rattle.sl_tcframe.specs.TcFrame.{TcView};
-ghost use Rattle.sl_tcflow.specs.Anomaly.{IsReportedOf, dropped_by, held_of, long_by, stray_by};
+ghost use Rattle.sl_tcflow.specs.Anomaly.{IsReportOnFrame, dropped_by, held_of, long_by, stray_by};
 ghost use Rattle.sl_tcflow.specs.Anomaly.{tail_by};
 ghost use Rattle.sl_tcflow.specs.Farms.{farm_of, verdict_on};
 ghost use Rattle.sl_tcflow.specs.Incomplete.{incomplete_of};
 ghost use Rattle.sl_tcflow.specs.Receiver.{ForProcessed, HasProcessed, IsFailed, HasFailedAfter};
 ghost use Rattle.sl_tcflow.specs.Receiver.{ForIncomplete, IsIncompleteAround, AreIncomplete};
-ghost use Rattle.sl_tcflow.specs.Receiver.{map_by, ended_by, unit_channel};
+ghost use Rattle.sl_tcflow.specs.Receiver.{ended_by, unit_channel, unit_map};
 ghost use Rattle.sl_tcflow.specs.Reception.{segments_of};
 ghost use Rattle.sl_tcflow.specs.ReceptionParameters.{ReceptionParameters};
 ghost use Rattle.sl_tcflow.specs.Recording.{channel_at};
@@ -21,7 +21,7 @@ ghost use Rattle.sl_tcflow.specs.StepReport.{counts_of};
 
 use crate::farms::Farms;
 use crate::report::{EMPTY_STEP, TcStep};
-use crate::segment::{Segment, segment_of};
+use crate::segment::{Segment, carried_segment};
 use crate::series_store::SeriesStore;
 use sl_cop::{Starts, Verdict, Window};
 use sl_fields::Clcw;
@@ -61,9 +61,10 @@ impl Model for Receiver {
 
 impl Receiver {
     /// A receiver that was given no frame yet. FARM-1 of each virtual channel is open, with this
-    /// window and with the initial V(R) that `starts` has for the channel. `plain` has the virtual
-    /// channels whose frames have no segment headers. The receiver holds no memory yet. Later it is
-    /// refused memory only where a series is incomplete, as [`frame`](Receiver::frame) says.
+    /// window and with the initial V(R) that `starts` has for the virtual channel. `plain` has the
+    /// virtual channels whose frames have no segment headers. The receiver holds no memory yet.
+    /// Later it is refused memory only where a series is incomplete, as [`frame`](Receiver::frame)
+    /// says.
     pub fn new(alloc: Global, window: Window, starts: &Starts, plain: VcSet) -> Receiver
         // No frame was processed, and no memory is held.
         ensures processed { HasProcessed
@@ -110,7 +111,7 @@ impl Receiver {
 
         // The report has the MAP of the frame's unit.
         ensures map { IfOk result (λ step. ForProcessed self.old (λ r views.
-            step.map ≡ map_by r frame.now)) }
+            step.map ≡ unit_map r frame.now)) }
 
         // The packets of the service data unit that the frame's unit completes were accepted and
         // counted, and the sink refused none.
@@ -150,8 +151,9 @@ impl Receiver {
 
         // Memory is refused only where the frame's unit is accepted and a series is incomplete on
         // its MAP, before the frame or after it. Only there does the memory change that is held for
-        // the list of the incomplete series; the octets of a series have memory of their own. (In
-        // this code the list gets memory only where a series is incomplete after the frame.)
+        // the list of the incomplete series; the octets of a series have memory of their own.
+        // (`take_segment` promises more of the list: a series is incomplete after the segment. Here
+        // both clauses have the one condition, which is enough for callers.)
         ensures memory { IfErr result (λ flow. flow ≡ FlowFault.Memory →
             ForProcessed self.old (λ r views. IsIncompleteAround r views frame.now)) }
         ensures capacity { self.new.series.capacity ≢ self.old.series.capacity →
@@ -255,7 +257,7 @@ fn take_unit<S: PacketSink>(
         sink.old (unit_channel r frame.now) (ended_by r views frame.now) result sink.new) }
     ensures step { IfOk result
         (λ step. ForIncomplete plain series.old.list verdict frame.now
-        (λ r views. IsReportedOf r views frame.now step)) }
+        (λ r views. IsReportOnFrame r views frame.now step)) }
 
     // Memory is refused, and the memory for the list of series changes, only where the unit is
     // accepted and a series is incomplete on its MAP, before the frame or after it.
@@ -273,7 +275,7 @@ fn take_unit<S: PacketSink>(
     ensures counted { IfErr result (λ flow. CountsFault S.failures sink.old flow sink.new) }
     ensures not_failed { IfErr result (λ flow. flow ≢ FlowFault.Failed) }
 {
-    let segment = segment_of(frame, plain);
+    let segment = carried_segment(frame, plain);
     let map = map_in(&segment);
     match accepted(verdict, segment) {
         // The verdict is `Accept` here, as each report on a segment has it.

@@ -12,18 +12,18 @@ use sl_tcframe::{TcShape, VcSet};
 use std::alloc::{AllocError, Global};
 
 /// The normal form of delivered packets, where those of virtual channel `v` and MAP `m` are on
-/// channel `64 * v + m`. The form is frames of CCSDS 232.0-B of type AD and of this format, end to
+/// channel `64 * v + m`. The form is frames of CCSDS 232.0-B of type AD and of this `shape`, end to
 /// end, and no octets where there are no packets. The form is this project's own
 /// (docs/normal-form.md).
 ///
 /// - `spacecraft` is 0 to 1023.
-/// - `starts` has the initial V(R) of each virtual channel, which is the N(S) of the channel's
-///   first frame.
+/// - `starts` has the initial V(R) of each virtual channel, which is the N(S) of the virtual
+///   channel's first frame.
 /// - `plain` has the virtual channels whose frames have no segment headers. There each frame
 ///   carries one packet.
 /// - `delivered` has packets that frames can carry, as [`fits_tc`](crate::fits_tc) tests.
 ///
-/// Read as a recording, with these starts and these channels, the form delivers exactly these
+/// Read as a recording, with these `starts` and this `plain`, the form delivers exactly these
 /// packets again, for every window of FARM-1. The call is refused only memory, and only where there
 /// are packets.
 pub fn reframe_tc(

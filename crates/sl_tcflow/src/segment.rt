@@ -8,6 +8,10 @@ use sl_fields::{SegmentHeader, front};
 use sl_tcframe::{TcContent, TcFrame};
 use std::marker::Model;
 
+/// The number of channels. Virtual channel `v` and MAP `m` have the channel `64 * v + m`, 0 to
+/// 4095.
+pub const CHANNELS: u16 = 4096;
+
 /// The sequence flags (CCSDS 232.0-B) of a continuing segment.
 pub const CONTINUING: u8 = 0;
 
@@ -47,7 +51,7 @@ impl<'a> Model for Segment<'a> {
 /// The segment of the unit that a frame carries, accepted or not. `None` where the frame carries no
 /// unit. `plain` says that the frame's virtual channel has no segment headers.
 #[inline(always)]
-pub fn segment_of<'a>(frame: &TcFrame<'a>, plain: bool) -> Option<Segment<'a>>
+pub fn carried_segment<'a>(frame: &TcFrame<'a>, plain: bool) -> Option<Segment<'a>>
     ensures { result ≡ carried_segment frame.now.vc plain frame.now.content }
 {
     match frame.content() {

@@ -1,20 +1,19 @@
-//! The series that are incomplete on the MAPs of all virtual channels.
+//! The incomplete series of the MAPs of all virtual channels.
 ghost use Rattle.std.specs.Prelude.{◌≡◌, ◌≢◌, ◌⊎◌, ◌≤◌, ◌<◌, ◌+◌, max, [], None, option_map, ℕ};
 ghost use Rattle.std.specs.Prelude.{length, OnOk, IfOk, IfErr, IfSome};
 ghost use Rattle.std.specs.Vec.{vec_len};
 ghost use Rattle.sl_packet.specs.Delivered.{channel_count};
 ghost use Rattle.sl_packet.specs.Packet.{longest_packet};
 ghost use Rattle.sl_packet.specs.Stopping.{HandsOver};
-ghost use Rattle.sl_tcflow.specs.IncompleteSteps.{IsReported, incomplete_with, packets_with};
+ghost use Rattle.sl_tcflow.specs.IncompleteSteps.{IsReportOnSegment, incomplete_with, packets_with};
 ghost use Rattle.sl_tcflow.specs.Recording.{channel_at};
 ghost use Rattle.sl_tcflow.specs.SeriesStore.{at, IsPlaced};
 ghost use Rattle.sl_tcflow.specs.StepReport.{counts_of};
 
-use crate::form::CHANNELS;
 use crate::hand_over::hand;
 use crate::incomplete::Incomplete;
 use crate::report::{EMPTY_STEP, TcStep};
-use crate::segment::{FIRST, Segment, WHOLE};
+use crate::segment::{CHANNELS, FIRST, Segment, WHOLE};
 use sl_packet::{FlowFault, PacketSink};
 use std::alloc::{AllocError, Global};
 use std::marker::Model;
@@ -107,7 +106,7 @@ impl SeriesStore {
             sink.old segment.now.channel
             (packets_with (at self.old.list segment.now.channel) segment.now.flags
             segment.now.octets) result sink.new }
-        ensures step { IfOk result (IsReported (at self.old.list segment.now.channel)
+        ensures step { IfOk result (IsReportOnSegment (at self.old.list segment.now.channel)
             segment.now.flags segment.now.octets) }
 
         // Memory is refused only where a series is incomplete, before the segment or after it.
@@ -145,7 +144,7 @@ fn take_alone<S: PacketSink>(segment: &Segment, sink: &mut S) -> Result<TcStep, 
     ensures hands_over { HandsOver S.taking S.failing S.failures counts_of
         sink.old segment.now.channel
         (packets_with None segment.now.flags segment.now.octets) result sink.new }
-    ensures step { IfOk result (IsReported None segment.now.flags segment.now.octets) }
+    ensures step { IfOk result (IsReportOnSegment None segment.now.flags segment.now.octets) }
     ensures not_memory { IfErr result (λ flow. flow ≢ FlowFault.Memory) }
 {
     if segment.flags == WHOLE {

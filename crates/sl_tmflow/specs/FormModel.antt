@@ -5,8 +5,8 @@ use Rattle.std.specs.List.{AllByRecursion}
 use Rattle.std.specs.Vec.{vec_capacity, vec_items}
 use Rattle.sl_packet.specs.Delivered.{IsDeliverable}
 use Rattle.sl_tmframe.specs.PacketFrame.{field_room_of}
-use Rattle.sl_tmflow.specs.Canonical.{IsFormat}
 use Rattle.sl_tmflow.specs.Form.{FormState, form_left}
+use Rattle.sl_tmflow.specs.FormDelivery.{IsFormat}
 use Rattle.sl_tmflow.specs.declared.form.TmForm.TheInside.{Inside}
 
 -- the octets that are still to come

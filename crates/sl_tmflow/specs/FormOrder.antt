@@ -6,7 +6,7 @@ use Rattle.std.specs.List.{AllByRecursion, concat, slice_index_or}
 use Rattle.sl_fields.specs.NeverFall.{NeverFall}
 use Rattle.sl_tmframe.specs.PacketFrame.{field_room_of}
 use Rattle.sl_tmframe.specs.TmFrame.{TmFormat, TmView, Packets}
-use Rattle.sl_tmflow.specs.Canonical.{AreDeliverable, IsFormat}
+use Rattle.sl_tmflow.specs.FormDelivery.{AreDeliverable, IsFormat}
 use Rattle.sl_tmflow.specs.VirtualChannel.{views_on, packet_data}
 use Rattle.sl_tmflow.specs.NormalForm.{normal_form, with_filling}
 use Rattle.sl_tmflow.specs.Recording.{recorded_views}

@@ -1,11 +1,11 @@
 pub mod Among
 pub mod Anomaly
-pub mod Canonical
 pub mod Channel
 pub mod Delivery
 pub mod Extractor
 pub mod ExtractorModel
 pub mod Form
+pub mod FormDelivery
 pub mod FormModel
 pub mod FormOrder
 pub mod Incomplete

@@ -7,12 +7,12 @@ ghost use Rattle.sl_tmflow.specs.Anomaly.{EachGapIsTold, EachToldIsAGap, EachLis
 ghost use Rattle.sl_tmflow.specs.Anomaly.{EachBrokenOffIsListed, OneIsBrokenOff, BrokenOffIsShort};
 ghost use Rattle.sl_tmflow.specs.Anomaly.{BrokenOffIsTold, WhatIsToldIsBrokenOff};
 ghost use Rattle.sl_tmflow.specs.Anomaly.{EachForeignStartIsTold, EachToldIsAForeignStart};
-ghost use Rattle.sl_tmflow.specs.Canonical.{NoFrameIsSkipped, NormalFormIsFrames};
-ghost use Rattle.sl_tmflow.specs.Canonical.{NormalFormDelivers, RecordedListsAreDeliverable};
 ghost use Rattle.sl_tmflow.specs.Delivery.{EachIsDelivery, EachIsListed, DeliveriesAreInOrder};
 ghost use Rattle.sl_tmflow.specs.Delivery.{PacketsEndOnce, EndsAreInOrder, EachEndsByTheNextStart};
 ghost use Rattle.sl_tmflow.specs.Delivery.{NoneOverlap};
 ghost use Rattle.sl_tmflow.specs.Extractor.{DeliveredAreHandedOver};
+ghost use Rattle.sl_tmflow.specs.FormDelivery.{NoFrameIsSkipped, NormalFormIsFrames};
+ghost use Rattle.sl_tmflow.specs.FormDelivery.{NormalFormDelivers, RecordedListsAreDeliverable};
 ghost use Rattle.sl_tmflow.specs.FormOrder.{ChannelsNeverFall, EachCarriesPackets, McCounts};
 ghost use Rattle.sl_tmflow.specs.FormOrder.{PacketsLieEndToEnd, VcCounts};
 ghost use Rattle.sl_tmflow.specs.Incomplete.{EachListedIsIncomplete, EachIncompleteIsListed};

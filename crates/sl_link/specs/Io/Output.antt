@@ -3,8 +3,10 @@ use Rattle.std.specs.Prelude.{◌≡◌, ℕ, List, Option}
 use Rattle.sl_link.specs.declared.io.output.Output.{Output}
 use Rattle.sl_link.specs.Io.Streams.{AddsText}
 
--- The writer is the one that was lent. Where a text was added, `Adds` says so. Elsewhere this stands beside what is
--- said of the writer's octets and faults, mostly as a clause `lent`, since nothing else there says so.
+-- The writer is the one that was lent: each reference has a `ghost_name` of its own. A caller that lends a writer to an
+-- output learns what became of it only while the output holds that reference. So each step promises this. Where a text
+-- was added, `Adds` says so. Elsewhere this stands beside what is said of the writer's octets and faults, mostly as a
+-- clause `lent`, since nothing else there says so.
 abbrev pub KeepsWriter : {W : Type 0} → Output W → Output W → Type 0
 KeepsWriter old new = new.writer.ghost_name ≡ old.writer.ghost_name
 

@@ -37,7 +37,7 @@ part_width = 100
 abbrev pub fields_width : ℕ
 fields_width = 60
 
--- some words: the counts or the class of a frame, a verdict and the word after it, the size of a packet
+-- some words: the frame counts or the class of a frame, a verdict and the word after it, the size of a packet
 abbrev pub words_width : ℕ
 words_width = 30
 

@@ -124,11 +124,11 @@ module _ {R W : Type 0} (remaining : R → Option (List ℕ)) (contents : W → 
     pub written : Writes contents writer writer' form
     pub same : packets form ≡ packets recording
 
-  -- Octets were read and a prefix of their text was written, and then came a fault, which has its cause. Each read goes
-  -- past the limit by the size of the buffer at most.
-  pub record Stops (reader reader' : Counted R) (writer writer' : Counted W) (text : List ℕ → List ℕ) (limit buffer : ℕ)
+  -- Octets were read and a prefix of their text was written, and then came a fault, which has its cause. `past` is the
+  -- size of the buffer: a read goes past the limit by no more.
+  pub record Stops (reader reader' : Counted R) (writer writer' : Counted W) (text : List ℕ → List ℕ) (limit past : ℕ)
       (fault : LinkFault) : Type 0 where
     pub octets : List ℕ
     pub read : Reads remaining reader reader' octets
     pub written : WritesPrefix contents writer writer' (text octets)
-    pub cause : IsCaused reader reader' writer writer' limit buffer octets fault
+    pub cause : IsCaused reader reader' writer writer' limit past octets fault

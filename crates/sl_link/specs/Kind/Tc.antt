@@ -9,10 +9,10 @@ use Rattle.sl_tcframe.specs.TcFrame.{TcView, Content, Ad, Bd, Unlock, SetVr, tc_
 use Rattle.sl_tcflow.specs.AcceptedUnit.{views_of}
 use Rattle.sl_tcflow.specs.Anomaly.{dropped_by, long_by, stray_by, tail_by}
 use Rattle.sl_tcflow.specs.Farms.{verdict_on}
-use Rattle.sl_tcflow.specs.Receiver.{HasProcessed, IsIncompleteAround, ReceiverState, ended_by, held_in, map_by, unit_channel}
+use Rattle.sl_tcflow.specs.Receiver.{HasProcessed, IsIncompleteAround, ReceiverState, ended_by, incomplete_octets_on, unit_channel, unit_map}
 use Rattle.sl_tcflow.specs.ReceptionParameters.{ReceptionParameters}
 use Rattle.sl_tcflow.specs.Recording.{map_channels, packets_of_channel, tc_lists}
-use Rattle.sl_link.specs.Kind.Delivery.{IsWithin, Kind, MayRefuseMemory, count_of, counts_in, number_of_idle, number_of_packets}
+use Rattle.sl_link.specs.Kind.Delivery.{IsWithin, Kind, MayRefuseStoreMemory, count_of, counts_in, number_of_idle, number_of_packets}
 use Rattle.sl_link.specs.Link.Managed.{Parameters, reception_of, tc_format}
 use Rattle.sl_link.specs.Link.Totals.{Counts}
 use Rattle.sl_link.specs.Tally.{listing_counts}
@@ -63,7 +63,7 @@ abbrev pub found_after : ReceptionParameters → List TcView → Result TcView T
 found_after r views (Ok view) =
     Ok (record {
       vc = view.vc;
-      map = map_by r view;
+      map = unit_map r view;
       ns = content_ns view.content;
       verdict = verdict_on r views view;
       stray = stray_by r views view;
@@ -103,7 +103,8 @@ tc_counts_in p = counts_in (tc_kind p)
 abbrev pub tc_counts : Parameters → List ℕ → Counts
 tc_counts p = listing_counts (tc_counts_in p) (tc_frames_of (tc_format p))
 
--- a series is incomplete before or after the last of these frames, on the MAP of its unit, which is accepted
+-- a series is incomplete before or after the last of these frames, on the MAP of its unit, which is accepted: there
+-- `check` and `packets` may be refused memory
 pub record IsIncompleteAtLastTc (p : Parameters) (frames : List (List ℕ)) : Type 0 where
   pub before : List (List ℕ)
   pub frame : List ℕ
@@ -112,19 +113,20 @@ pub record IsIncompleteAtLastTc (p : Parameters) (frames : List (List ℕ)) : Ty
   pub is_read : as_read p frame ≡ Ok view
   pub incomplete : IsIncompleteAround (reception_of p) (views_of (tc_format p) p.spacecraft before) view
 
--- the same, or these frames deliver a packet
-abbrev pub MayRefuseMemoryTc : Parameters → List (List ℕ) → Type 0
-MayRefuseMemoryTc p = MayRefuseMemory (tc_kind p) (IsIncompleteAtLastTc p)
+-- the same, or these frames deliver a packet: there `normalise` and `same` may be refused it
+abbrev pub MayRefuseStoreMemoryTc : Parameters → List (List ℕ) → Type 0
+MayRefuseStoreMemoryTc p = MayRefuseStoreMemory (tc_kind p) (IsIncompleteAtLastTc p)
 
 -- ---- a receiver. Contracts of private functions alone cite this.
 
 -- the octets of the series that are incomplete after frames
 abbrev pub octets_held_after : Parameters → List (List ℕ) → ℕ
 octets_held_after p frames =
-    count_of (map (held_in (reception_of p) (views_of (tc_format p) p.spacecraft frames)) map_channels)
+    count_of (map (incomplete_octets_on (reception_of p) (views_of (tc_format p) p.spacecraft frames)) map_channels)
 
--- A receiver has processed these frames. The packets that they deliver and the octets that it holds
--- are together no more than the octets of the frames.
+-- A receiver has processed these frames. The packets that they deliver and the octets that it holds are together no
+-- more than the octets of the frames (`held`). TM has `within` alone, as no more packets end in a TM frame than it has
+-- octets. But with a unit all packets of its series end, and these may be more than its octets.
 pub record HasProcessedTc (p : Parameters) (state : ReceiverState) (frames : List (List ℕ)) : Type 0 where
   pub processed : HasProcessed (reception_of p) state (views_of (tc_format p) p.spacecraft frames)
   pub within : IsWithin (tc_kind p) frames

@@ -7,7 +7,7 @@ use Rattle.sl_tmflow.specs.Anomaly.{dropped_of, foreign_of, gap_of}
 use Rattle.sl_tmflow.specs.VirtualChannel.{views_on, views_of}
 use Rattle.sl_tmflow.specs.Extractor.{ExtractorState, HasProcessed, IsIncompleteAround, ended_by}
 use Rattle.sl_tmflow.specs.Recording.{packets_of_channel, tm_lists, virtual_channels}
-use Rattle.sl_link.specs.Kind.Delivery.{IsWithin, Kind, MayRefuseMemory, counts_in}
+use Rattle.sl_link.specs.Kind.Delivery.{IsWithin, Kind, MayRefuseStoreMemory, counts_in}
 use Rattle.sl_link.specs.Link.Managed.{Parameters, tm_format}
 use Rattle.sl_link.specs.Link.Totals.{Counts}
 use Rattle.sl_link.specs.Tally.{listing_counts}
@@ -92,7 +92,8 @@ tm_counts_in p = counts_in (tm_kind p)
 abbrev pub tm_counts : Parameters → List ℕ → Counts
 tm_counts p = listing_counts (tm_counts_in p) (tm_frames_of p.tm_length)
 
--- a packet is incomplete before or after the last of these frames, on its virtual channel
+-- a packet is incomplete before or after the last of these frames, on its virtual channel: there `check` and `packets`
+-- may be refused memory
 pub record IsIncompleteAtLastTm (p : Parameters) (frames : List (List ℕ)) : Type 0 where
   pub before : List (List ℕ)
   pub frame : List ℕ
@@ -101,9 +102,9 @@ pub record IsIncompleteAtLastTm (p : Parameters) (frames : List (List ℕ)) : Ty
   pub is_read : as_read p frame ≡ Ok view
   pub incomplete : IsIncompleteAround (views_of (tm_format p) p.spacecraft before) view
 
--- the same, or these frames deliver a packet
-abbrev pub MayRefuseMemoryTm : Parameters → List (List ℕ) → Type 0
-MayRefuseMemoryTm p = MayRefuseMemory (tm_kind p) (IsIncompleteAtLastTm p)
+-- the same, or these frames deliver a packet: there `normalise` and `same` may be refused it
+abbrev pub MayRefuseStoreMemoryTm : Parameters → List (List ℕ) → Type 0
+MayRefuseStoreMemoryTm p = MayRefuseStoreMemory (tm_kind p) (IsIncompleteAtLastTm p)
 
 -- An extractor has processed these frames. Contracts of private functions alone cite this.
 pub record HasProcessedTm (p : Parameters) (state : ExtractorState) (frames : List (List ℕ)) : Type 0 where

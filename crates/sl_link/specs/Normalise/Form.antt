@@ -10,21 +10,22 @@ use Rattle.sl_link.specs.Kind.Delivery.{AreDelivered, AreStored, Kind, counts_in
 use Rattle.sl_link.specs.Link.Totals.{Counts}
 use Rattle.sl_link.specs.Tally.{listing_counts}
 
--- ---- what is stored
-
 -- the normal form of a recording's packets
 abbrev pub form_text : Kind → (List (List (List ℕ)) → List ℕ) → List ℕ → List ℕ
 form_text k form_of recording = form_of (recorded_packets k recording)
 
--- the first lists of those that are stored, one for each channel of the kind
-abbrev pub listed : Kind → List (List (List ℕ)) → List (List (List ℕ))
-listed k lists = take k.channel_limit lists
+-- ---- what is stored
 
--- not all of these are empty
+-- the first lists of those that are stored, one for each channel of the kind
+abbrev pub channel_lists : Kind → List (List (List ℕ)) → List (List (List ℕ))
+channel_lists k lists = take k.channel_limit lists
+
+-- not all lists of the channels of the kind are empty
 abbrev pub HasSome : Kind → List (List (List ℕ)) → Type 0
 HasSome k lists = ((channel : ℕ) → channel < k.channel_limit → slice_index_or lists channel [] ≡ []) → ⊥
 
--- all of a recording was read, its packets are stored, and these are its counts
+-- All of a recording was read, its packets are stored, and these are its counts. `delivered` isn't about this
+-- recording: it is what holds of the kind.
 pub record StoresAll {R : Type 0} (remaining : R → Option (List ℕ)) (reader reader' : Counted R) (k : Kind) (limit : ℕ)
     (lists : List (List (List ℕ))) (totals : Counts) : Type 0 where
   pub octets : List ℕ
@@ -34,11 +35,12 @@ pub record StoresAll {R : Type 0} (remaining : R → Option (List ℕ)) (reader 
   pub counts : totals ≡ listing_counts (counts_in k) k.frames_of octets
 
 -- memory was refused, where `at_memory` holds
-abbrev pub IsRefused : Type 0 → LinkFault → Type 0
-IsRefused at_memory fault = (fault ≡ Memory) × at_memory
+abbrev pub IsMemoryRefused : Type 0 → LinkFault → Type 0
+IsMemoryRefused at_memory fault = (fault ≡ Memory) × at_memory
 
 -- ---- room
 
--- octets enough for a piece of either kind
+-- octets enough for a piece of either kind: one of TM wants room for 90,112, one of TC for 131,091 (`piece_room` of the
+-- flow crates); this is a round number above both
 abbrev pub piece_size : ℕ
 piece_size = 0x30000

@@ -67,12 +67,12 @@ abbrev pub with_default : Rule → Text → Rule
 with_default option default = record option { defaults = default ∷ [] }
 
 -- `--NAME NUMBER`, which no command line may leave out
-abbrev pub needed_number : Text → ValueParser → Rule
-needed_number name numbers = needed (with_numbers (text_rule name) numbers)
+abbrev pub needed_number_rule : Text → ValueParser → Rule
+needed_number_rule name numbers = needed (with_numbers (text_rule name) numbers)
 
 -- `--NAME NUMBER`, with the number that it has where it is left out
-abbrev pub number_or : Text → ValueParser → Text → Rule
-number_or name numbers default = with_default (with_numbers (text_rule name) numbers) default
+abbrev pub number_or_rule : Text → ValueParser → Text → Rule
+number_or_rule name numbers default = with_default (with_numbers (text_rule name) numbers) default
 
 -- `--NAME`, which takes no value
 abbrev pub flag_rule : Text → Rule
@@ -81,16 +81,16 @@ flag_rule name = record (new_rule name) { long = Some name; action = Some SetTru
 -- the options of the link
 abbrev pub link_options : List Rule
 link_options =
-    needed_number (codes "scid") bits_16
-    ∷ number_or (codes "tm-length") bits_16 (codes "1115")
-    ∷ number_or (codes "tc-length") bits_16 (codes "1024")
+    needed_number_rule (codes "scid") bits_16
+    ∷ number_or_rule (codes "tm-length") bits_16 (codes "1115")
+    ∷ number_or_rule (codes "tc-length") bits_16 (codes "1024")
     ∷ flag_rule (codes "tm-fecf")
     ∷ flag_rule (codes "tc-fecf")
-    ∷ number_or (codes "window") bits_8 (codes "10")
-    ∷ number_or (codes "vr") bits_8 (codes "0")
+    ∷ number_or_rule (codes "window") bits_8 (codes "10")
+    ∷ number_or_rule (codes "vr") bits_8 (codes "0")
     ∷ text_rule (codes "vr-of")
     ∷ text_rule (codes "plain")
-    ∷ number_or (codes "limit") bits_64 (codes "1073741824")
+    ∷ number_or_rule (codes "limit") bits_64 (codes "1073741824")
     ∷ []
 
 -- a command, with the options of the link too

@@ -66,8 +66,9 @@ impl Decimals {
     }
 
     /// Places that begin with the digits of `number`, a long number without its last four digits,
-    /// and how many digits these are, 16 at most. `None` where the digits of another number are
-    /// kept. Mostly those of `number` are, since offsets rise little by little.
+    /// and how many digits these are: 16 at most, since a number of 64 bits has 20 at most. `None`
+    /// where the digits of another number are kept. Mostly those of `number` are, since offsets
+    /// rise little by little.
     #[inline(always)]
     pub fn leading(&self, number: u64) -> Option<([u8; 16], usize)>
         ensures digits { IfSome result (λ leading. take leading.1 leading.0 ≡ decimal number) }

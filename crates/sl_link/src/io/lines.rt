@@ -114,25 +114,25 @@ impl Lines {
     pub fn push_number(&mut self, number: u64)
         requires { HasRoomFor number_width self.old }
         ensures text { self.new ≡ self.old ++ decimal number }
-        ensures long { length self.new ≤ length self.old + number_width }
+        ensures short { length self.new ≤ length self.old + number_width }
     {
         match u8::try_from(number) {
             Ok(small) => self.push_small_number(small),
-            Err(_) => self.push_long(number),
+            Err(_) => self.push_large_number(number),
         }
     }
 
-    // Adds a number that isn't an octet, of three digits or more.
-    fn push_long(&mut self, number: u64)
+    // Adds a number of three digits or more, as each that isn't an octet is.
+    fn push_large_number(&mut self, number: u64)
         requires room { HasRoomFor number_width self.old }
-        requires long { 100 ≤ number }
+        requires large { 100 ≤ number }
         ensures text { self.new ≡ self.old ++ decimal number }
-        ensures long { length self.new ≤ length self.old + number_width }
+        ensures short { length self.new ≤ length self.old + number_width }
     {
         let last = self.decimals.last_four((number % 10_000) as u16);
         if number >= 10_000 {
             match self.decimals.leading(number / 10_000) {
-                Some(leading) => self.push_two(leading, &last),
+                Some(leading) => self.push_both(leading, &last),
                 // A call in last place, so that the other arm needn't save registers for it: `show`
                 // of TM frames takes 5 % fewer instructions.
                 None => self.push_anew(number / 10_000, &last),
@@ -154,12 +154,12 @@ impl Lines {
         ensures short { length self.new ≤ length self.old + number_width }
     {
         let leading = self.decimals.new_leading(leading);
-        self.push_two(leading, last);
+        self.push_both(leading, last);
     }
 
     // Adds leading digits, as `Decimals` gives them, and the last four digits.
     #[inline(always)]
-    fn push_two(&mut self, leading: ([u8; 16], usize), last: &[u8; 4])
+    fn push_both(&mut self, leading: ([u8; 16], usize), last: &[u8; 4])
         requires room { HasRoomFor number_width self.old }
         requires few { leading.1 ≤ 16 }
         ensures text { self.new ≡ self.old ++ (take leading.1 leading.0 ++ last.now) }
@@ -171,7 +171,8 @@ impl Lines {
     }
 
     /// Adds a number of one octet, 0 to 255, in decimal. Most numbers of a listing are below 256,
-    /// and this call is faster than `push_number`.
+    /// and this call is faster than `push_number`. It wants room for four octets, which
+    /// `push_first` copies.
     #[inline(always)]
     pub fn push_small_number(&mut self, number: u8)
         requires { HasRoomFor 4 self.old }

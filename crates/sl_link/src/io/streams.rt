@@ -16,8 +16,8 @@ pub fn read_some<R: Read>(
     limit: u64,
 ) -> Result<usize, LinkFault>
     ensures came { IfOk result (ReadsSome R.remaining reader.old reader.new buffer.new limit) }
-    // At `TooLong` more octets came than the argument `limit`, and no more than the buffer holds:
-    // so many octets more as the last number of the clause says.
+    // At `TooLong` more octets came than the argument `limit`, and no more than the buffer holds.
+    // So they are past the limit by `length buffer.new - limit` at most, the clause's last number.
     ensures fault { IfErr result
         (StopsReading R.remaining reader.old reader.new limit (length buffer.new - limit)) }
     // At `Read` no octets came.

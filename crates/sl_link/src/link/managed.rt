@@ -123,9 +123,10 @@ impl Managed {
     /// The spacecraft identifier, 0 to 1023.
     ///
     /// Two clauses aren't about this value. They say what holds of every `Managed`, so that callers
-    /// can use the [`laws`](crate::laws). The laws on normal forms want that no parameter is
-    /// refused, and that the initial V(R) of each virtual channel is one octet. The laws on
-    /// FARM-1's runs and on the order of frames want a window of a width of 254 at most.
+    /// can use the laws. Those on normal forms ([`laws`](crate::laws)) want that no parameter is
+    /// refused, and that the initial V(R) of each virtual channel is one octet. Some of those on
+    /// FARM-1's runs (`sl_cop::laws`) and on the order of frames (`sl_tcflow::laws`) want a window
+    /// that isn't too wide: a width of 254 is enough for all of them.
     pub fn spacecraft(&self) -> u16
         ensures value { result ≡ self.now.spacecraft }
         ensures accepted { AreAccepted self.now }

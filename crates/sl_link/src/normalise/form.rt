@@ -14,8 +14,8 @@ use crate::pass::CHUNK_SIZE;
 use std::alloc::Global;
 use std::io::Write;
 
-/// Octets enough for those that aren't written yet, 0x10000 at most, and a piece of either kind,
-/// 0x30000 at most.
+/// Octets enough for those that aren't written yet, `CHUNK_SIZE` at most, and a piece of either
+/// kind, for which 0x30000 are enough (`piece_size`).
 const FORM_SIZE: usize = 0x40000;
 
 /// A normal form that is made piece by piece, so that it need not be held whole.

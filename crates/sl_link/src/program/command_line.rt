@@ -63,7 +63,8 @@ const PLAIN: &str = "plain";
 
 const LIMIT: &str = "limit";
 
-// The kinds of recording.
+// The kinds of recording. In clauses what is lent has an address, and `IsSllink` wants the same
+// addresses in all four verbs. So this is a `static`, which has one, and `sllink` lends it once.
 static KINDS: [&str; 2] = ["tm", "tc"];
 
 // The version of the product. The line that `--version` writes repeats it.

@@ -81,7 +81,9 @@ impl<D: Checked> Verb for Check<D> {
         let remainders = remainder_lines(&mut out.lines, offset, remainder);
         let incomplete = incomplete_lines(&self.delivery, octets, out)?;
         out.make_room()?;
-        let totals = self.so_far.totals(remainder, remainders + incomplete);
+        let totals = self
+            .so_far
+            .with_remainder(remainder, remainders + incomplete);
         push_totals(&mut out.lines, &totals);
         Ok(totals)
     }
@@ -100,6 +102,7 @@ fn incomplete_lines<D: Checked, W: Write>(
     ensures number { IfOk result (λ number. (p : Parameters) (frames : Frames)
         → D.has_processed delivery.now p frames
         → number ≡ length (flat_map (D.open_at p offset frames) (D.kind p).channels)) }
+    // One line at most for each channel below `open_below`, a `u16`: so the caller's sum fits.
     ensures most { IfOk result (λ number. number ≤ 65535) }
     ensures few { IfOk result (λ number. (p : Parameters) (frames : Frames)
         → D.has_processed delivery.now p frames → number ≤ length frames) }

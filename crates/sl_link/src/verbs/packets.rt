@@ -102,6 +102,6 @@ impl<D: Printed> Verb for Packets<D> {
         octets: u64,
         _out: &mut Output<W>,
     ) -> Result<Totals, LinkFault> {
-        Ok(self.so_far.totals(octets - self.so_far.octets(), 0))
+        Ok(self.so_far.with_remainder(octets - self.so_far.octets(), 0))
     }
 }

@@ -73,6 +73,6 @@ impl<S: Shown> Verb for Show<S> {
         if remainder > 0 {
             push_remainder(&mut out.lines, offset, remainder);
         }
-        Ok(self.so_far.totals(remainder, 0))
+        Ok(self.so_far.with_remainder(remainder, 0))
     }
 }

@@ -3,7 +3,7 @@
 use Rattle.std.proofs.Common.{◌≡◌, ℕ, true, false, List, [], ◌∷◌, ◌++◌, map, replicate, take, drop}
 use Rattle.sl_tcframe.specs.TcFrame.{TcFormat, TcView, Ad}
 use Rattle.sl_tcflow.specs.AcceptedUnit.{views_on}
-use Rattle.sl_tcflow.specs.FormOrder.{form_views, segments_in}
+use Rattle.sl_tcflow.specs.FormOrder.{form_views, segments_carried}
 use Rattle.sl_tcflow.specs.Receiver.{map_of}
 use Rattle.sl_tcflow.specs.Series.{whole_segment}
 
@@ -33,10 +33,10 @@ pub record FormIsInOrder : Type 0 where
       ∷ record { vc = 0; content = Ad 1 (0xC1 ∷ short) } ∷ record { vc = 1; content = Ad 0 short } ∷ []
   pub maps : map (λ (view : TcView). map_of false view.content) (views_on 0 views) ≡ 0 ∷ 0 ∷ 1 ∷ []
   pub map_without : map (λ (view : TcView). map_of true view.content) (views_on 1 views) ≡ 0 ∷ []
-  pub one_series : segments_in false 0 (views_on 0 views) ≡ first_segment ∷ last_segment ∷ []
-  pub one_segment : segments_in false 1 (views_on 0 views) ≡ (0xC1 ∷ short) ∷ []
-  pub whole_packet : segments_in true 0 (views_on 1 views) ≡ whole_segment short ∷ []
-  pub none_on_map_1 : segments_in true 1 (views_on 1 views) ≡ []
+  pub one_series : segments_carried false 0 (views_on 0 views) ≡ first_segment ∷ last_segment ∷ []
+  pub one_segment : segments_carried false 1 (views_on 0 views) ≡ (0xC1 ∷ short) ∷ []
+  pub whole_packet : segments_carried true 0 (views_on 1 views) ≡ whole_segment short ∷ []
+  pub none_on_map_1 : segments_carried true 1 (views_on 1 views) ≡ []
 
 pub form_is_in_order : FormIsInOrder
 form_is_in_order = assumption

@@ -35,7 +35,7 @@ packets vr vc map_id recording = packets_of_segments (segments_of (from_vr vr) v
 abbrev form : ℕ → List (List (List ℕ)) → List ℕ
 form vr lists = tc_normal_form_of (format 16) 1 (replicate 64 vr) [] lists
 
--- ---- one unsegmented unit
+-- ---- one unit with no segmentation
 
 abbrev packet : List ℕ
 packet = 0x10 ∷ 0x01 ∷ 0xC0 ∷ 0x00 ∷ 0x00 ∷ 0x03 ∷ 0xAA ∷ 0xBB ∷ 0xCC ∷ 0xDD ∷ []
@@ -192,7 +192,7 @@ of_both_types =
 abbrev at_last : List ℕ
 at_last = 0x00 ∷ 0x01 ∷ 0xFC ∷ 0x0F ∷ 0xFF ∷ 0xFF ∷ packet
 
--- two unsegmented units: the second one would complete the octets that are left after the packet of the first one
+-- two units with no segmentation: the second one would complete the octets that are left after the packet of the first one
 abbrev with_rest : List ℕ
 with_rest = 0xC0 ∷ packet ++ 0x10 ∷ 0x02 ∷ 0xC0 ∷ []
 
@@ -204,7 +204,7 @@ pub record AreAtLimits : Type 0 where
   pub empty_last : packets_of_segments ((0x40 ∷ packet) ∷ (0x80 ∷ []) ∷ []) ≡ packet ∷ []
   pub empty_whole : packets_of_segments ((0xC0 ∷ []) ∷ []) ≡ []
   pub empty_first : incomplete_of ((0x40 ∷ []) ∷ []) ≡ Some []
-  -- an unsegmented unit drops the incomplete series
+  -- a unit with no segmentation drops the incomplete series
   pub whole_between : packets_of_segments (first_of_2 ∷ (0xC2 ∷ packet) ∷ last_of_2 ∷ []) ≡ packet ∷ []
   pub left_over : packets_of_segments (with_rest ∷ completing ∷ []) ≡ packet ∷ []
   pub both_types : packets 0 0 0 of_both_types ≡ packet ∷ []

@@ -1,8 +1,8 @@
 -- The normal form.
--- it delivers the packets that it was made from
-pub mod Canonical
 -- its frames carry each packet in a series of its own
 pub mod Carried
+-- it delivers the packets that it was made from
+pub mod Delivery
 -- its frames are read back and accepted
 pub mod Frames
 -- its octets that are still to come

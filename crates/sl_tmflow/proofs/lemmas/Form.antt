@@ -1,10 +1,10 @@
 -- The normal form.
--- it is read as a recording
-pub mod Canonical
 -- packets that are divided into data fields
 pub mod Cut
 -- their frames deliver them again
 pub mod CutDelivery
+-- it is read as a recording
+pub mod Delivery
 -- the pointer to the first packet start of a field
 pub mod FieldStart
 -- the filling up to a whole data field

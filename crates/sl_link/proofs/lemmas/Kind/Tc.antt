@@ -11,7 +11,7 @@ use Rattle.sl_tcframe.specs.declared.tc_frame.TcSkip.{TcSkip}
 use Rattle.sl_tcframe.specs.TcFrame.{TcView, Content, command_of, content_of, early_reason, is_cut, tc_header_of, tc_parts_of, read_as, unit_content}
 use Rattle.sl_tcframe.proofs.PartLemmas.{cut_facts}
 use Rattle.sl_tcflow.specs.AcceptedUnit.{views_of}
-use Rattle.sl_tcflow.specs.Receiver.{ReceiverState, HasProcessed, unit_channel, held_in}
+use Rattle.sl_tcflow.specs.Receiver.{ReceiverState, HasProcessed, unit_channel, incomplete_octets_on}
 use Rattle.sl_tcflow.specs.ReceptionParameters.{ReceptionParameters, is_plain}
 use Rattle.sl_tcflow.specs.Recording.{map_channels, packets_of_channel}
 use Rattle.sl_tcflow.proofs.lemmas.Reception.Channel.{held_other, held_own, packets_other, packets_own, small_map, unit_len}
@@ -73,20 +73,20 @@ tc_delivered p = record {
 
 -- the packets that end and the octets that are held after them are no more than those held before and the frame's own
 held_next : (p : Parameters) (views : List TcView) (read : Result TcView TcSkip) → unit_channel_of (reception_of p) read < channel_count
-    → count_of (map (held_in (reception_of p) (with_frame views read)) map_channels) + length (ended_in (reception_of p) views read)
-    ≤ count_of (map (held_in (reception_of p) views) map_channels) + unit_len_of read
+    → count_of (map (incomplete_octets_on (reception_of p) (with_frame views read)) map_channels) + length (ended_in (reception_of p) views read)
+    ≤ count_of (map (incomplete_octets_on (reception_of p) views) map_channels) + unit_len_of read
 held_next p views (Err reason) range = omega arith
 held_next p views (Ok view) range =
     let r = reception_of p in
     let at = unit_channel r view in
     let all = channels_are channel_count refl in
-    let change = items_change channel_count map_channels all (held_in r views) (held_in r (views ++ view ∷ [])) at range (λ i other. ap length (held_other r views view i other)) in
+    let change = items_change channel_count map_channels all (incomplete_octets_on r views) (incomplete_octets_on r (views ++ view ∷ [])) at range (λ i other. ap length (held_other r views view i other)) in
     omega (arith, change, held_own r views view at refl)
 
 pub none_processed : (p : Parameters) (state : ReceiverState) → HasProcessed (reception_of p) state [] → HasProcessedTc p state []
 none_processed p state processed =
     let laws = tc_delivered p in
-    let held : octets_held_after p [] ≡ 0 = no_items (held_in (reception_of p) []) map_channels (λ channel. refl) in
+    let held : octets_held_after p [] ≡ 0 = no_items (incomplete_octets_on (reception_of p) []) map_channels (λ channel. refl) in
     search (arith, none_within (tc_kind p) laws, no_packets (tc_kind p) laws, no_idle (tc_kind p) laws, held)
 
 -- a frame has five octets
@@ -101,7 +101,7 @@ one_processed {p} {before} frame had is processed =
     let read = as_read p frame in
     let next = views_next (as_read p) before frame in
     let within = had.held in
-    let held_is = ap (λ views. count_of (map (held_in (reception_of p) views) map_channels)) next in
+    let held_is = ap (λ views. count_of (map (incomplete_octets_on (reception_of p) views) map_channels)) next in
     let few = held_next p seen read (small_channel p frame) in
     let split = split_count (ended_in (reception_of p) seen read) in
     let held : number_of_packets (tc_kind p) (before ++ frame ∷ []) + number_of_idle (tc_kind p) (before ++ frame ∷ []) + octets_held_after p (before ++ frame ∷ []) ≤ length (concat (before ++ frame ∷ [])) =

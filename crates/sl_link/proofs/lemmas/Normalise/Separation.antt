@@ -1,9 +1,9 @@
 -- What normal forms tell of the packets of recordings.
 use Rattle.std.proofs.Common.{arith, ℕ, List, ◌≡◌, Ok}
-use Rattle.sl_tcflow.proofs.lemmas.Form.Canonical.{normal_form_delivers}
+use Rattle.sl_tcflow.proofs.lemmas.Form.Delivery.{normal_form_delivers}
 use Rattle.sl_tcflow.proofs.lemmas.Reception.PlainRecording.{recorded_lists_fit}
 use Rattle.sl_tcflow.proofs.lemmas.Reception.Recording as tc_recording
-use Rattle.sl_tmflow.proofs.lemmas.Form.Canonical.{delivers}
+use Rattle.sl_tmflow.proofs.lemmas.Form.Delivery.{delivers}
 use Rattle.sl_tmflow.proofs.lemmas.Delivery.Recording as tm_recording
 use Rattle.sl_link.specs.Link.Managed.{AreAccepted, Parameters, managed_of, reception_of, tc_format, tm_format}
 use Rattle.sl_link.specs.Kind.Tc.{tc_packets}

@@ -10,23 +10,23 @@ use Rattle.sl_link.proofs.lemmas.Io.Streams.{reader_caused, writer_caused}
 
 module _ {R W : Type 0} {remaining : R → Option (List ℕ)} {contents : W → Option (List ℕ)} {reader reader' : Counted R} {writer : Counted W} {text : List ℕ → List ℕ} {limit : ℕ} where
   -- a fault before anything is written,
-  pub stops_at_reading : {buffer : ℕ} {fault : LinkFault} → StopsReading remaining reader reader' limit buffer fault → Stops remaining contents reader reader' writer writer text limit buffer fault
-  stops_at_reading {buffer} {fault} s = record {
+  pub stops_at_reading : {past : ℕ} {fault : LinkFault} → StopsReading remaining reader reader' limit past fault → Stops remaining contents reader reader' writer writer text limit past fault
+  stops_at_reading {past} {fault} s = record {
     octets = s.octets;
     read = s.read;
     written = record { written = []; missing = text s.octets; front = refl; writes = Appends-nil (contents (stream_of writer)) };
-    cause = reader_caused reader reader' writer writer limit buffer s.octets fault refl s.cause;
+    cause = reader_caused reader reader' writer writer limit past s.octets fault refl s.cause;
   }
 
   module _ {octets written : List ℕ} (r : ReadsAll remaining reader reader' limit octets) {writer' : Counted W} (same : written ≡ text octets) where
     -- or while a normal form is made or written
-    pub stops_at_form : {buffer : ℕ} {at_memory : Type 0} {fault : LinkFault} → StopsWriting contents writer writer' written at_memory fault
-        → Stops remaining contents reader reader' writer writer' text limit buffer fault
-    stops_at_form {buffer} {fault = fault} s = record {
+    pub stops_at_form : {past : ℕ} {at_memory : Type 0} {fault : LinkFault} → StopsWriting contents writer writer' written at_memory fault
+        → Stops remaining contents reader reader' writer writer' text limit past fault
+    stops_at_form {past} {fault = fault} s = record {
       octets = octets;
       read = r.read;
       written = rw (← same) s.front;
-      cause = writer_caused reader reader' writer writer' limit buffer octets fault r.no_fault r.within s.cause;
+      cause = writer_caused reader reader' writer writer' limit past octets fault r.no_fault r.within s.cause;
     }
 
     -- all of it is written

@@ -33,18 +33,18 @@ module _ {W : Type 0} {contents : W → Option (List ℕ)} {start old : Output W
 
 -- ---- of a whole recording
 
-module _ {R W : Type 0} (remaining : R → Option (List ℕ)) (contents : W → Option (List ℕ)) (l : Listing) (frames_of : List ℕ → Frames) (reader reader' : Counted R) (limit buffer : ℕ) (may_refuse_memory : Frames → Type 0) where
+module _ {R W : Type 0} (remaining : R → Option (List ℕ)) (contents : W → Option (List ℕ)) (l : Listing) (frames_of : List ℕ → Frames) (reader reader' : Counted R) (limit past : ℕ) (may_refuse_memory : Frames → Type 0) where
   -- the text after the first frames
   later_text : (octets : List ℕ) (first later : Frames) → frames_of octets ≡ first ++ later
-      → lines_from l.line [] first ++ (lines_from l.line first later ++ l.last (frames_of octets) (remainder_after (frames_of octets) octets)) ≡ listing_text frames_of l octets
-  later_text octets first later e = rw (← append_assoc (lines_from l.line [] first), ← lines_from-append l.line [] first later, ← e)
+      → lines_from l.lines [] first ++ (lines_from l.lines first later ++ l.last (frames_of octets) (remainder_after (frames_of octets) octets)) ≡ listing_text frames_of l octets
+  later_text octets first later e = rw (← append_assoc (lines_from l.lines [] first), ← lines_from-append l.lines [] first later, ← e)
 
   module _ (start new : Output W) (empty : start.lines ≡ []) where
     -- the output keeps the writer that was lent, and the listing ends in this way
     abbrev pub Ends : Result Counts LinkFault → Type 0
     Ends result =
         KeepsWriter start new
-        × EndsListing remaining contents reader reader' start.writer.now new.writer.now frames_of l limit buffer may_refuse_memory result
+        × EndsListing remaining contents reader reader' start.writer.now new.writer.now frames_of l limit past may_refuse_memory result
 
     -- a fault at a text with which the listing of these octets begins
     stops_at : (at_memory : Type 0) (text more octets : List ℕ) (fault : LinkFault) → Reads remaining reader reader' octets → faults_of reader' ≡ faults_of reader → length octets ≤ limit
@@ -52,17 +52,17 @@ module _ {R W : Type 0} (remaining : R → Option (List ℕ)) (contents : W → 
         → (at_memory → MayRefuseMemoryAtSome remaining reader reader' frames_of may_refuse_memory) → Ends (Err fault)
     stops_at at_memory text more octets fault read kept within e lent s allowed =
         let written = rw (empty, e) at (stops_first start.lines text more s).front in
-        let cause = writer_caused reader reader' start.writer.now new.writer.now limit buffer octets fault kept within s.cause in
+        let cause = writer_caused reader reader' start.writer.now new.writer.now limit past octets fault kept within s.cause in
         (lent, record { listing = tt; totals = tt; fault = record { octets = octets; read = read; written = written; cause = cause }; memory = λ is_memory. allowed (s.memory is_memory) })
 
     -- a fault before all was read
     pub stops_frames : (taken : Frames → Type 0) (stopped : Frames → LinkFault → Type 0) (fault : LinkFault)
-        → ((frames : Frames) → taken frames → Adds contents start (lines_from l.line [] frames) new)
+        → ((frames : Frames) → taken frames → Adds contents start (lines_from l.lines [] frames) new)
         → ((frames : Frames) → stopped frames fault → KeepsWriter start new
-        × StopsWriting contents start.writer.now new.writer.now (start.lines ++ lines_from l.line [] frames) (may_refuse_memory frames) fault)
-        → StopsPassing remaining reader reader' frames_of taken stopped limit buffer fault → Ends (Err fault)
+        × StopsWriting contents start.writer.now new.writer.now (start.lines ++ lines_from l.lines [] frames) (may_refuse_memory frames) fault)
+        → StopsPassing remaining reader reader' frames_of taken stopped limit past fault → Ends (Err fault)
     stops_frames taken stopped fault added stops s =
-        let more = lines_from l.line s.first s.later ++ l.last (frames_of s.octets) (remainder_after (frames_of s.octets) s.octets) in
+        let more = lines_from l.lines s.first s.later ++ l.last (frames_of s.octets) (remainder_after (frames_of s.octets) s.octets) in
         let text = later_text s.octets s.first s.later s.in_order in
         elim s.cause [
           | inl at ↦
@@ -70,20 +70,20 @@ module _ {R W : Type 0} (remaining : R → Option (List ℕ)) (contents : W → 
               let t = a.adds in
               let front : t.written ++ (new.lines ++ more) ≡ listing_text frames_of l s.octets = rw (← append_assoc t.written new.lines more, ← t.parts, empty) text in
               let written : WritesPrefix contents start.writer.now new.writer.now (listing_text frames_of l s.octets) = record { written = t.written; missing = new.lines ++ more; front = front; writes = t.writes } in
-              let cause = reader_caused reader reader' start.writer.now new.writer.now limit buffer s.octets fault t.no_fault at.2 in
+              let cause = reader_caused reader reader' start.writer.now new.writer.now limit past s.octets fault t.no_fault at.2 in
               (a.lent, record { listing = tt; totals = tt; fault = record { octets = s.octets; read = s.read; written = written; cause = cause }; memory = λ is_memory. absurd (at.1 is_memory) })
           | inr at ↦
               let w = stops s.first at.0 in
-              stops_at (may_refuse_memory s.first) (lines_from l.line [] s.first) more s.octets fault s.read at.1 at.2 text w.0 w.1
+              stops_at (may_refuse_memory s.first) (lines_from l.lines [] s.first) more s.octets fault s.read at.1 at.2 text w.0 w.1
               (λ at_memory. record { octets = s.octets; read = s.read; first = s.first; later = s.later; in_order = s.in_order; at_last = at_memory })
         ]
 
-    module _ (n : ℕ) (taken : Frames → Type 0) (s : PassesOver remaining reader reader' frames_of taken limit n) (mid : Output W) (listed : Adds contents start (lines_from l.line [] (frames_of s.octets)) mid) where
+    module _ (n : ℕ) (taken : Frames → Type 0) (s : PassesOver remaining reader reader' frames_of taken limit n) (mid : Output W) (listed : Adds contents start (lines_from l.lines [] (frames_of s.octets)) mid) where
       abbrev last_lines : List ℕ
       last_lines = l.last (frames_of s.octets) (n - length (concat (frames_of s.octets)))
 
-      whole_text : lines_from l.line [] (frames_of s.octets) ++ last_lines ≡ listing_text frames_of l s.octets
-      whole_text = ap (λ k. lines_from l.line [] (frames_of s.octets) ++ l.last (frames_of s.octets) (k - length (concat (frames_of s.octets)))) s.size
+      whole_text : lines_from l.lines [] (frames_of s.octets) ++ last_lines ≡ listing_text frames_of l s.octets
+      whole_text = ap (λ k. lines_from l.lines [] (frames_of s.octets) ++ l.last (frames_of s.octets) (k - length (concat (frames_of s.octets)))) s.size
 
       -- a fault of the last lines
       pub stops_finish : (fault : LinkFault) → KeepsWriter mid new → StopsWriting contents mid.writer.now new.writer.now (mid.lines ++ last_lines) ⊥ fault → Ends (Err fault)

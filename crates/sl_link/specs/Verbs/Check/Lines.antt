@@ -67,7 +67,7 @@ abbrev pub check_listing : Kind → (List (List ℕ) → List ℕ → List (List
     → (ℕ → List (List ℕ) → ℕ → List (List ℕ)) → Listing
 check_listing k anomalies_at open_at =
     record {
-      line = λ before frame. concat (anomalies_at before frame);
+      lines = λ before frame. concat (anomalies_at before frame);
       last = λ frames remainder. concat (end_anomalies k open_at frames remainder)
           ++ totals_line (check_counts_in k anomalies_at open_at frames remainder);
       counts = check_counts_in k anomalies_at open_at;

@@ -7,14 +7,14 @@ use Rattle.sl_fields.specs.PacketHeader.{PacketFields, packet_header}
 use Rattle.sl_link.specs.Kind.Delivery.{Kind, counts_in}
 use Rattle.sl_link.specs.Verbs.Listing.{Listing}
 
--- the fields of the primary header from the secondary header flag on
-abbrev pub numbers_text : PacketFields → List ℕ
-numbers_text h = codes " secondary " ++ decimal (bit_of h.secondary) ++ codes " flags " ++ decimal h.flags
+-- the other fields of the primary header that the line names, in its order
+abbrev pub other_fields_text : PacketFields → List ℕ
+other_fields_text h = codes " secondary " ++ decimal (bit_of h.secondary) ++ codes " flags " ++ decimal h.flags
     ++ codes " count " ++ decimal h.count
 
 -- all fields of the primary header
 abbrev pub header_text : PacketFields → List ℕ
-header_text h = codes " apid " ++ decimal h.apid ++ codes " type " ++ decimal h.kind ++ numbers_text h
+header_text h = codes " apid " ++ decimal h.apid ++ codes " type " ++ decimal h.kind ++ other_fields_text h
 
 -- how many octets there are
 abbrev pub size_text : ℕ → List ℕ
@@ -34,4 +34,4 @@ packet_line channel packet = channel ++ packet_text packet
 
 -- the listing of frames of a kind with these lines
 abbrev pub packets_listing : Kind → (List (List ℕ) → List ℕ → List ℕ) → Listing
-packets_listing k lines = record { line = lines; last = λ frames remainder. []; counts = counts_in k }
+packets_listing k lines = record { lines = lines; last = λ frames remainder. []; counts = counts_in k }

@@ -7,7 +7,7 @@ use Rattle.sl_tcframe.specs.declared.tc_frame.TcSkip.{TcSkip}
 use Rattle.sl_tcframe.specs.TcDelimited.{tc_frames_of}
 use Rattle.sl_tcframe.specs.TcFrame.{TcView}
 use Rattle.sl_tcflow.specs.AcceptedUnit.{views_of}
-use Rattle.sl_tcflow.specs.Receiver.{ended_by, map_by}
+use Rattle.sl_tcflow.specs.Receiver.{ended_by, unit_map}
 use Rattle.sl_tcflow.specs.ReceptionParameters.{ReceptionParameters}
 use Rattle.sl_link.specs.Kind.Tc.{as_read, tc_kind}
 use Rattle.sl_link.specs.Link.Managed.{Parameters, reception_of, tc_format}
@@ -26,7 +26,7 @@ tc_channel_name channel = tc_channel_text (channel / 64) (channel % 64)
 -- the series that its unit ends
 abbrev pub tc_packet_lines : ReceptionParameters → List TcView → Result TcView TcSkip → List ℕ
 tc_packet_lines r views (Ok view) =
-    concat (map (packet_line (tc_channel_text view.vc (map_by r view))) (without_idle (ended_by r views view)))
+    concat (map (packet_line (tc_channel_text view.vc (unit_map r view))) (without_idle (ended_by r views view)))
 tc_packet_lines r views (Err reason) = []
 
 -- the same of a frame that comes after `before`

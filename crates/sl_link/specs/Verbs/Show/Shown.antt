@@ -15,7 +15,7 @@ show_counts_in is_skipped frames remainder =
 abbrev pub show_listing : (List ℕ → Bool) → (List (List ℕ) → List ℕ → List ℕ) → Listing
 show_listing is_skipped line =
     record {
-      line = line;
+      lines = line;
       last = λ frames remainder. remainder_line (length (concat frames)) remainder;
       counts = show_counts_in is_skipped;
     }

@@ -67,8 +67,8 @@ abbrev pub farm_view : Parameters → List (List ℕ) → ℕ → FarmView
 farm_view p before vc = farm_of (reception_of p) vc (views_of (tc_format p) p.spacecraft before)
 
 -- the line of a frame that comes after these frames
-abbrev pub tc_line : Parameters → List (List ℕ) → List ℕ → List ℕ
-tc_line p before frame =
+abbrev pub show_tc_line : Parameters → List (List ℕ) → List ℕ → List ℕ
+show_tc_line p before frame =
     line_at (length (concat before)) (tc_frame_text p.plain (farm_view p before)
     (tc_frame (tc_format p) p.spacecraft frame))
 
@@ -78,7 +78,7 @@ tc_is_skipped p frame = is_err (tc_frame (tc_format p) p.spacecraft frame)
 
 -- the listing: a line for each frame, and one for a remainder
 abbrev pub show_tc_listing : Parameters → Listing
-show_tc_listing p = show_listing (tc_is_skipped p) (tc_line p)
+show_tc_listing p = show_listing (tc_is_skipped p) (show_tc_line p)
 
 -- the text of a recording
 abbrev pub show_tc_text : Parameters → List ℕ → List ℕ

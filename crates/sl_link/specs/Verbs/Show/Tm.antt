@@ -37,20 +37,21 @@ word_text word =
     if flag 4 0 word then codes " ocf " ++ encode_lower word
     else codes " clcw " ++ encode_lower word ++ clcw_fields_text (clcw_word word)
 
+-- the same, where the frame has one
 abbrev pub control_text : Option (List ℕ) → List ℕ
 control_text None = []
 control_text (Some word) = word_text word
 
 -- the virtual channel and the frame counts
-abbrev pub counts_text : TmView → List ℕ
-counts_text view =
+abbrev pub frame_counts_text : TmView → List ℕ
+frame_counts_text view =
     codes " frame vc " ++ decimal view.vc
     ++ codes " mc " ++ decimal view.mc_count
     ++ codes " vcc " ++ decimal view.vc_count
 
 -- the line of a frame that is read, after its offset
 abbrev pub tm_view_text : TmView → List ℕ
-tm_view_text view = counts_text view ++ codes " " ++ field_text view.field ++ control_text view.control
+tm_view_text view = frame_counts_text view ++ codes " " ++ field_text view.field ++ control_text view.control
 
 -- the line of a frame, after its offset
 abbrev pub tm_frame_text : Result TmView TmSkip → List ℕ
@@ -64,12 +65,13 @@ abbrev pub tm_is_skipped : Parameters → List ℕ → Bool
 tm_is_skipped p frame = is_err (tm_frame (tm_format p) p.spacecraft frame)
 
 -- the line of a frame that comes after these frames, at its offset
-abbrev pub tm_line : Parameters → List (List ℕ) → List ℕ → List ℕ
-tm_line p before frame = line_at (length (concat before)) (tm_frame_text (tm_frame (tm_format p) p.spacecraft frame))
+abbrev pub show_tm_line : Parameters → List (List ℕ) → List ℕ → List ℕ
+show_tm_line p before frame =
+    line_at (length (concat before)) (tm_frame_text (tm_frame (tm_format p) p.spacecraft frame))
 
 -- the listing: a line for each frame at its offset, and one for a remainder
 abbrev pub show_tm_listing : Parameters → Listing
-show_tm_listing p = show_listing (tm_is_skipped p) (tm_line p)
+show_tm_listing p = show_listing (tm_is_skipped p) (show_tm_line p)
 
 -- the text of a recording
 abbrev pub show_tm_text : Parameters → List ℕ → List ℕ

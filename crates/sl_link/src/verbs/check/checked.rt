@@ -20,8 +20,8 @@ pub trait Checked: Delivery {
     /// The lines of what is found of a frame that begins at an offset.
     ghost lines_of: { ℕ → Self.Found → List (List ℕ) };
 
-    /// The line of what is incomplete on a channel, or none: under the parameters, by the offset
-    /// that the line names, the frames so far, and the channel's number.
+    /// The line `open`, of what is incomplete on a channel, or none: under the parameters, by the
+    /// offset that the line names, the frames so far, and the channel's number.
     ghost open_at: { Parameters → ℕ → List (List ℕ) → ℕ → List (List ℕ) };
 
     /// Adds the lines of what is found of a frame that begins at `offset`, and answers how many
@@ -65,9 +65,9 @@ pub trait Checked: Delivery {
 }
 
 impl Checked for Extractor {
-    ghost use Rattle.sl_link.specs.Verbs.Check.Tm.{tm_lines, tm_open};
+    ghost use Rattle.sl_link.specs.Verbs.Check.Tm.{check_tm_lines, tm_open};
 
-    ghost lines_of = { tm_lines };
+    ghost lines_of = { check_tm_lines };
 
     ghost open_at = { tm_open };
 
@@ -94,9 +94,9 @@ impl Checked for Extractor {
 
 impl Checked for Receiver {
     ghost use Rattle.sl_packet.specs.Delivered.{channel_count};
-    ghost use Rattle.sl_link.specs.Verbs.Check.Tc.{tc_lines, tc_open};
+    ghost use Rattle.sl_link.specs.Verbs.Check.Tc.{check_tc_lines, tc_open};
 
-    ghost lines_of = { tc_lines };
+    ghost lines_of = { check_tc_lines };
 
     ghost open_at = { tc_open };
 

@@ -3,7 +3,7 @@ ghost use Rattle.std.specs.Prelude.{◌≡◌, if◌then◌else◌, [], ◌++◌
 ghost use Rattle.std.specs.List.{concat};
 ghost use Rattle.sl_link.specs.Io.Room.{HasRoom, HasRoomFor, line_width};
 ghost use Rattle.sl_link.specs.Verbs.Check.Checking.{AddsAnomalies, is_quiet};
-ghost use Rattle.sl_link.specs.Verbs.Check.Tc.{discarded_anomaly, discards, tc_lines};
+ghost use Rattle.sl_link.specs.Verbs.Check.Tc.{discarded_anomaly, discards, check_tc_lines};
 
 use crate::io::lines::Lines;
 use crate::io::words::{push_tc_skip, push_verdict};
@@ -16,8 +16,8 @@ use sl_tcframe::TcSkip;
 #[inline(always)]
 pub fn tc_anomaly_lines(lines: &mut Lines, offset: u64, found: Result<TcFound, TcSkip>) -> u64
     requires { HasRoom lines.old }
-    ensures text { lines.new ≡ lines.old ++ concat (tc_lines offset found) }
-    ensures number { result ≡ length (tc_lines offset found) }
+    ensures text { lines.new ≡ lines.old ++ concat (check_tc_lines offset found) }
+    ensures number { result ≡ length (check_tc_lines offset found) }
 {
     match found {
         Ok(found) => {
@@ -62,8 +62,8 @@ fn discards(verdict: Verdict) -> bool
 // frames of up to 64 octets takes 5 % more instructions, since each frame stores it.
 fn tc_found_lines(lines: &mut Lines, offset: u64, found: TcFound) -> u64
     requires { HasRoom lines.old }
-    ensures text { lines.new ≡ lines.old ++ concat (tc_lines offset (Ok found)) }
-    ensures number { result ≡ length (tc_lines offset (Ok found)) }
+    ensures text { lines.new ≡ lines.old ++ concat (check_tc_lines offset (Ok found)) }
+    ensures number { result ≡ length (check_tc_lines offset (Ok found)) }
 {
     let at = Place {
         offset,

@@ -1,7 +1,7 @@
 //! The lines of packets, whose octets are written part by part.
 ghost use Rattle.std.specs.Prelude.{◌≡◌, ◌+◌, ◌≤◌, ◌++◌, length, IfErr, OnErr, OnOk};
 ghost use Rattle.hex.specs.Hex.{encode_lower};
-ghost use Rattle.sl_link.specs.Verbs.Packets.Line.{fields_text, header_text, numbers_text, packet_text, size_text};
+ghost use Rattle.sl_link.specs.Verbs.Packets.Line.{fields_text, header_text, other_fields_text, packet_text, size_text};
 ghost use Rattle.sl_link.specs.Io.Output.{Adds, KeepsWriter};
 ghost use Rattle.sl_link.specs.Io.Room.{HasRoomFor, fields_width, part_width, text_width, words_width};
 ghost use Rattle.sl_link.specs.Io.Streams.{StopsWriting};
@@ -57,12 +57,12 @@ fn push_header(lines: &mut Lines, header: &PacketHeader)
     lines.push_number(u64::from(header.apid()));
     lines.push(b" type ");
     lines.push_small_number(header.kind());
-    push_numbers(lines, header);
+    push_other_fields(lines, header);
 }
 
-fn push_numbers(lines: &mut Lines, header: &PacketHeader)
+fn push_other_fields(lines: &mut Lines, header: &PacketHeader)
     requires { HasRoomFor fields_width lines.old }
-    ensures text { lines.new ≡ lines.old ++ numbers_text header.now }
+    ensures text { lines.new ≡ lines.old ++ other_fields_text header.now }
     ensures short { length lines.new ≤ length lines.old + fields_width }
 {
     lines.push(b" secondary ");

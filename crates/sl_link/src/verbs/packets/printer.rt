@@ -79,7 +79,7 @@ fn print_packet<W: Write>(
     out.make_room()?;
     push_channel(&mut out.lines, kind, channel);
     // After this call the whole line was added; or, at a fault, a prefix of the waiting lines and
-    // this one was written.
+    // this one was written. (With `?` the exit at a fault has a name, which the answers use.)
     push_packet_text(out, packet)?;
     Ok(())
 }

@@ -1,7 +1,7 @@
 //! The lines of a TM recording's listing.
 ghost use Rattle.std.specs.Prelude.{◌≡◌, ◌+◌, ◌≤◌, ◌++◌, codes, length};
 ghost use Rattle.sl_tmframe.specs.TmField.{data_field};
-ghost use Rattle.sl_link.specs.Verbs.Show.Tm.{clcw_fields_text, word_text, control_text, field_text, counts_text, tm_view_text, tm_frame_text};
+ghost use Rattle.sl_link.specs.Verbs.Show.Tm.{clcw_fields_text, word_text, control_text, field_text, frame_counts_text, tm_view_text, tm_frame_text};
 ghost use Rattle.sl_link.specs.Io.Room.{HasRoomFor, fields_width, part_width, text_width, words_width};
 
 use crate::io::lines::Lines;
@@ -26,15 +26,15 @@ fn push_tm_view(lines: &mut Lines, frame: &TmFrame)
     ensures text { lines.new ≡ lines.old ++ tm_view_text frame.now }
     ensures short { length lines.new ≤ length lines.old + text_width }
 {
-    push_counts(lines, frame);
+    push_frame_counts(lines, frame);
     lines.push(b" ");
     push_field(lines, frame.field());
     push_control(lines, frame.control());
 }
 
-fn push_counts(lines: &mut Lines, frame: &TmFrame)
+fn push_frame_counts(lines: &mut Lines, frame: &TmFrame)
     requires { HasRoomFor words_width lines.old }
-    ensures text { lines.new ≡ lines.old ++ counts_text frame.now }
+    ensures text { lines.new ≡ lines.old ++ frame_counts_text frame.now }
     ensures short { length lines.new ≤ length lines.old + words_width }
 {
     lines.push(b" frame vc ");

@@ -38,7 +38,7 @@ pub trait Shown: Drop {
             × is_frame managed.now frame.now }
         requires room { HasRoomFor (text_width + 1) lines.old }
         ensures skipped { result ≡ is_skipped managed.now frame.now }
-        // No frame is empty: the totals want it.
+        // Not about what this call does: no frame is empty, as the totals want.
         ensures some { 0 < length frame.now }
         // The lines were some others, `start`, and the offset. Now they are `start` and the line.
         ensures line { (before : List (List ℕ)) (start : List ℕ)
@@ -56,13 +56,13 @@ pub struct TmFrames;
 impl Shown for TmFrames {
     ghost use Rattle.std.specs.Prelude.{⊤};
     ghost use Rattle.sl_link.specs.Pass.Tm.{is_tm_frame};
-    ghost use Rattle.sl_link.specs.Verbs.Show.Tm.{tm_is_skipped, tm_line};
+    ghost use Rattle.sl_link.specs.Verbs.Show.Tm.{tm_is_skipped, show_tm_line};
 
     ghost is_frame = { is_tm_frame };
 
     ghost is_skipped = { tm_is_skipped };
 
-    ghost line = { tm_line };
+    ghost line = { show_tm_line };
 
     ghost has_shown = { λ frames p before. ⊤ };
 
@@ -82,13 +82,13 @@ impl Shown for Farms {
     ghost use Rattle.sl_tcflow.specs.AcceptedUnit.{views_of};
     ghost use Rattle.sl_tcflow.specs.Farms.{HaveStepped};
     ghost use Rattle.sl_link.specs.Link.Managed.{reception_of, tc_format};
-    ghost use Rattle.sl_link.specs.Verbs.Show.Tc.{tc_is_skipped, tc_line};
+    ghost use Rattle.sl_link.specs.Verbs.Show.Tc.{tc_is_skipped, show_tc_line};
 
     ghost is_frame = { is_tc_frame };
 
     ghost is_skipped = { tc_is_skipped };
 
-    ghost line = { tc_line };
+    ghost line = { show_tc_line };
 
     ghost has_shown = { λ farms p before. HaveStepped (reception_of p) farms
         (views_of (tc_format p) p.spacecraft before) };

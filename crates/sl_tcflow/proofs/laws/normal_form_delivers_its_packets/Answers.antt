@@ -1,4 +1,4 @@
-use Rattle.sl_tcflow.proofs.lemmas.Form.Canonical.{normal_form_is_frames, no_frame_is_long, normal_form_delivers}
+use Rattle.sl_tcflow.proofs.lemmas.Form.Delivery.{normal_form_is_frames, no_frame_is_long, normal_form_delivers}
 use Rattle.sl_tcflow.proofs.lemmas.Form.Order.{no_frame_is_skipped}
 use Rattle.sl_tcflow.proofs.laws.normal_form_delivers_its_packets.Goals as goal
 

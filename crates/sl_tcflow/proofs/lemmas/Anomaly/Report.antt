@@ -3,10 +3,10 @@ use Rattle.std.proofs.Common.{arith, ◌≡◌, ℕ, ◌<◌, false, List, [], �
 use Rattle.sl_cop.specs.declared.verdict.Verdict.{Verdict}
 use Rattle.sl_cop.specs.declared.verdict.Verdict.TheVariants.{Accept}
 use Rattle.sl_tcframe.specs.TcFrame.{TcView}
-use Rattle.sl_tcflow.specs.Anomaly.{IsReportedOf, dropped_of, long_of, stray_of, tail_of}
+use Rattle.sl_tcflow.specs.Anomaly.{IsReportOnFrame, dropped_of, long_of, stray_of, tail_of}
 use Rattle.sl_tcflow.specs.Farms.{verdict_on}
-use Rattle.sl_tcflow.specs.IncompleteSteps.{IsReported, dropped_with, long_with, quiet_report, stray_with, tail_after}
-use Rattle.sl_tcflow.specs.Receiver.{AreIncomplete, map_by, segment_by}
+use Rattle.sl_tcflow.specs.IncompleteSteps.{IsReportOnSegment, dropped_with, long_with, empty_report, stray_with, tail_after}
+use Rattle.sl_tcflow.specs.Receiver.{AreIncomplete, unit_map, segment_by}
 use Rattle.sl_tcflow.specs.ReceptionParameters.{ReceptionParameters}
 use Rattle.sl_tcflow.specs.Recording.{channel_at}
 use Rattle.sl_tcflow.specs.Segment.{SegmentView}
@@ -20,9 +20,9 @@ use Rattle.sl_tcflow.proofs.lemmas.Reception.Unit.{IsReadNext}
 -- the report on a frame whose unit is accepted
 pub reported_more : (r : ReceptionParameters) (old : List (Option (List ℕ))) (views : List TcView) (next : TcView) (unit : List ℕ) (step : StepReport) (map_id : ℕ)
     → AreIncomplete r old views → next.vc < 64 → segment_by r views next ≡ unit ∷ []
-    → map_by r next ≡ (header_at unit).map → verdict_on r views next ≡ Accept → map_id ≡ map_by r next
-    → IsReported (at old (channel_at next.vc (header_at unit).map)) (flags_of unit) (segment_data unit) step
-    → IsReportedOf r views next (record step { map = map_id })
+    → unit_map r next ≡ (header_at unit).map → verdict_on r views next ≡ Accept → map_id ≡ unit_map r next
+    → IsReportOnSegment (at old (channel_at next.vc (header_at unit).map)) (flags_of unit) (segment_data unit) step
+    → IsReportOnFrame r views next (record step { map = map_id })
 reported_more r old views next unit step map_id are inside unit_is map_id_is accepted map_is reported =
     record {
       verdict = reported.verdict ∙ sym accepted;
@@ -35,12 +35,12 @@ reported_more r old views next unit step map_id are inside unit_is map_id_is acc
 
 -- the same, from what is read of the unit
 pub reported_read : (r : ReceptionParameters) (old : List (Option (List ℕ))) (views : List TcView) (next : TcView) (read : SegmentView) (step : StepReport) (map_id : ℕ)
-    → IsReadNext r views next read → AreIncomplete r old views → next.vc < 64 → map_id ≡ map_by r next
-    → IsReported (at old read.channel) read.flags read.octets step → IsReportedOf r views next (record step { map = map_id })
+    → IsReadNext r views next read → AreIncomplete r old views → next.vc < 64 → map_id ≡ unit_map r next
+    → IsReportOnSegment (at old read.channel) read.flags read.octets step → IsReportOnFrame r views next (record step { map = map_id })
 reported_read r old views next read step map_id is are inside map_is reported =
     reported_more r old views next is.segment step map_id are inside is.accepted is.map_id is.verdict map_is (rw (is.view) at reported)
 
 -- the report on a frame without an accepted unit
 pub reported_none : (r : ReceptionParameters) (views : List TcView) (next : TcView) (verdict : Verdict) (map_id : ℕ) → verdict ≡ verdict_on r views next
-    → map_id ≡ map_by r next → segment_by r views next ≡ [] → IsReportedOf r views next (record quiet_report { verdict = verdict; map = map_id })
+    → map_id ≡ unit_map r next → segment_by r views next ≡ [] → IsReportOnFrame r views next (record empty_report { verdict = verdict; map = map_id })
 reported_none r views next verdict map_id is map_is none = grind (arith, told_none)

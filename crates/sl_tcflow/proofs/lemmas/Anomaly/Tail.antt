@@ -6,7 +6,7 @@ use Rattle.std.proofs.lemmas.Bool.Decides.{leb_tells}
 use Rattle.std.proofs.lemmas.List.Elements.{All-contains, All-from_recursion, Contains-append_cases, Contains-push}
 use Rattle.sl_packet.specs.Packets.{packets_of, rest_of}
 use Rattle.sl_packet.proofs.PacketsLemmas.{each_has_packets, has_packets_once}
-use Rattle.sl_tcflow.specs.Anomaly.{left_in, tail_of, HasTail, TailIsTold, WhatIsToldIsTail}
+use Rattle.sl_tcflow.specs.Anomaly.{rest_of_series, tail_of, HasTail, TailIsTold, WhatIsToldIsTail}
 use Rattle.sl_tcflow.specs.Series.{flags_of, IsSeriesOf, SeriesAt, past, reassembled, series_of}
 use Rattle.sl_tcflow.proofs.lemmas.Series.OneMore.{each_ending, ending_is, series_ending, series_next, series_within}
 use Rattle.sl_tcflow.proofs.lemmas.Series.Listed.{each_is_series, each_series_is_listed, series_at}
@@ -32,11 +32,11 @@ ending_one before [] next = one_or (flags_of next == 3) (series_at before (next 
 ending_one before (segment ∷ later) next = grind (arith, one_or, ending_one (before + 1) later next)
 
 abbrev left_of : List SeriesAt → List ℕ
-left_of list = flat_map (λ (s : SeriesAt). left_in s.segments) list
+left_of list = flat_map (λ (s : SeriesAt). rest_of_series s.segments) list
 
 -- the octets that are left of the service data unit that ends with the segment
-tail_ending : (list : List (List ℕ)) (next : List ℕ) (s : SeriesAt) → series_ending 0 list next ≡ s ∷ [] → tail_of list next ≡ length (left_in s.segments)
-tail_ending list next s one = ap (λ l. length (left_of l)) (ending_is list next ∙ one) ∙ ap length (append-nil (left_in s.segments))
+tail_ending : (list : List (List ℕ)) (next : List ℕ) (s : SeriesAt) → series_ending 0 list next ≡ s ∷ [] → tail_of list next ≡ length (rest_of_series s.segments)
+tail_ending list next s one = ap (λ l. length (left_of l)) (ending_is list next ∙ one) ∙ ap length (append-nil (rest_of_series s.segments))
 
 pub tail_is_told : TailIsTold
 tail_is_told list next count tail =

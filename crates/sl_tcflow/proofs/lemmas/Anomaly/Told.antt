@@ -5,9 +5,9 @@ use Rattle.std.proofs.lemmas.Bool.{ltb-true}
 use Rattle.std.proofs.lemmas.Bool.Decides.{eqb_tells}
 use Rattle.std.specs.Prelude.{is_none, option_map}
 use Rattle.sl_tcframe.specs.TcFrame.{TcView}
-use Rattle.sl_tcflow.specs.Anomaly.{begins, continues, octets_held, of_segment, of_accepted, StrayIsTold, WhatIsToldIsStray, DroppedIsTold, WhatIsToldIsDropped, LongIsTold, WhatIsToldIsLong}
+use Rattle.sl_tcflow.specs.Anomaly.{begins, continues, number_held, of_segment, of_accepted, StrayIsTold, WhatIsToldIsStray, DroppedIsTold, WhatIsToldIsDropped, LongIsTold, WhatIsToldIsLong}
 use Rattle.sl_tcflow.specs.Incomplete.{IsIncomplete, incomplete_of, exceeds_limit}
-use Rattle.sl_tcflow.specs.Receiver.{AreIncomplete, map_by, segment_by}
+use Rattle.sl_tcflow.specs.Receiver.{AreIncomplete, unit_map, segment_by}
 use Rattle.sl_tcflow.specs.Reception.{segments_of}
 use Rattle.sl_tcflow.specs.ReceptionParameters.{ReceptionParameters}
 use Rattle.sl_tcflow.specs.Recording.{channel_at}
@@ -22,21 +22,21 @@ use Rattle.std.proofs.lemmas.Bool.{and_parts}
 -- without an accepted unit nothing is reported
 pub told_none : {X : Type 0} (none : X) (told : List (List ℕ) → List ℕ → X) (r : ReceptionParameters) (views : List TcView) (next : TcView)
     → segment_by r views next ≡ [] → of_accepted none told r views next ≡ none
-told_none none told r views next no_segment = ap (of_segment none (told (segments_of r next.vc (map_by r next) views))) no_segment
+told_none none told r views next no_segment = ap (of_segment none (told (segments_of r next.vc (unit_map r next) views))) no_segment
 
 -- with an accepted unit, the report depends on the series that is incomplete at the unit's index
 module _ (r : ReceptionParameters) (old : List (Option (List ℕ))) (views : List TcView) (next : TcView) (unit : List ℕ) where
   told_more : {X : Type 0} (none : X) (told : List (List ℕ) → List ℕ → X) (from : Option (List ℕ) → List ℕ → X)
       → ((list : List (List ℕ)) (segment : List ℕ) → told list segment ≡ from (incomplete_of list) segment)
       → AreIncomplete r old views → next.vc < 64 → segment_by r views next ≡ unit ∷ []
-      → map_by r next ≡ (header_at unit).map
+      → unit_map r next ≡ (header_at unit).map
       → of_accepted none told r views next ≡ from (at old (channel_at next.vc (header_at unit).map)) unit
   told_more none told from same are inside unit_is map_id_is = grind (arith, map_fits)
 
   pub told_at : {X : Type 0} (none : X) (told : List (List ℕ) → List ℕ → X) (from : Option (List ℕ) → List ℕ → X)
       → ((list : List (List ℕ)) (segment : List ℕ) → told list segment ≡ from (incomplete_of list) segment)
       → (vc : ℕ) (answer : X) → AreIncomplete r old views → next.vc < 64 → segment_by r views next ≡ unit ∷ []
-      → map_by r next ≡ (header_at unit).map → vc ≡ next.vc → answer ≡ from (at old (channel_at vc (header_at unit).map)) unit
+      → unit_map r next ≡ (header_at unit).map → vc ≡ next.vc → answer ≡ from (at old (channel_at vc (header_at unit).map)) unit
       → answer ≡ of_accepted none told r views next
   told_at none told from same vc answer are inside unit_is map_id_is same_vc is = grind (arith, told_more)
 
@@ -73,7 +73,7 @@ what_is_told_is_stray list next told =
 
 pub dropped_is_told : DroppedIsTold
 dropped_is_told list next count dropped =
-    ap (λ b. if b then octets_held list else None) (begins_is next dropped.anew)
+    ap (λ b. if b then number_held list else None) (begins_is next dropped.anew)
     ∙ ap (option_map length) (incomplete_is_told list dropped.octets dropped.incomplete) ∙ ap Some (sym dropped.count_is)
 
 some_if : (b : Bool) (held : Option ℕ) (count : ℕ) → (if b then held else None) ≡ Some count → (b ≡ true) × (held ≡ Some count)
@@ -91,7 +91,7 @@ what_is_told_is_dropped list next count told = grind (arith, some_if, some_held,
 
 pub long_is_told : LongIsTold
 long_is_told list next long =
-    ap (λ b. b && exceeds_limit (octets_held list) (length (segment_data next))) (continues_is next long.goes_on)
+    ap (λ b. b && exceeds_limit (number_held list) (length (segment_data next))) (continues_is next long.goes_on)
     ∙ ap (λ held. exceeds_limit (option_map length held) (length (segment_data next))) (incomplete_is_told list long.octets long.incomplete)
     ∙ lt-ltb 65542 (length long.octets + length (segment_data next)) long.too_many
 

@@ -9,9 +9,9 @@ use Rattle.sl_tcframe.specs.AdFrame.{plain_room_of, segment_room_of}
 use Rattle.sl_tcframe.specs.TcFrame.{TcFormat, TcView}
 use Rattle.sl_tcframe.specs.VcSet.{has_vc}
 use Rattle.sl_tcflow.specs.AcceptedUnit.{unit_of}
-use Rattle.sl_tcflow.specs.Canonical.{AreDeliverable}
+use Rattle.sl_tcflow.specs.FormDelivery.{AreDeliverable}
 use Rattle.sl_tcflow.specs.Fits.{FitsOn}
-use Rattle.sl_tcflow.specs.FormOrder.{CarryPackets, EachPacketIsOneSeries, none, more, room_in, segments_in}
+use Rattle.sl_tcflow.specs.FormOrder.{CarryPackets, EachPacketIsOneSeries, none, more, room_in, segments_carried}
 use Rattle.sl_tcflow.specs.Series.{whole, segment_data, segment_in, segments_on, whole_segment}
 use Rattle.sl_tcflow.specs.TcNormalForm.{AreSegments, IsDividedInto, last, units_of_maps, units_of_packet}
 use Rattle.sl_fields.proofs.ListLemmas.{each-at}
@@ -97,7 +97,7 @@ each_packet_is_one_series format spacecraft starts plain lists can vc map_id ins
     let b = has_vc plain vc in
     let own = units format spacecraft starts plain lists can vc in
     let start = slice_index_or starts vc 0 in
-    subst (λ views. CarryPackets (room_in b format) map_id (slice_index_or lists (64 * vc + map_id) []) (segments_in b map_id views))
+    subst (λ views. CarryPackets (room_in b format) map_id (slice_index_or lists (64 * vc + map_id) []) (segments_carried b map_id views))
     (sym (own_views format spacecraft starts plain lists can vc inside))
     (subst (λ l. CarryPackets (room_in b format) map_id (slice_index_or lists (64 * vc + map_id) []) (segments_on map_id (map (segment_in b) l))) (sym (units_back vc start own))
     (carried format lists vc inside can.deliverable b map_id small (some_room format spacecraft can.is_format can.spacecraft_fits) (can.fit vc inside)))

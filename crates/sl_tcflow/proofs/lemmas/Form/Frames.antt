@@ -15,9 +15,9 @@ use Rattle.sl_tcframe.specs.TcFrame.{TcFormat, TcView, Ad, is_cut}
 use Rattle.sl_tcframe.specs.VcSet.{has_vc}
 use Rattle.sl_tcframe.proofs.AdFrameLemmas.{ad_frame_back, ad_frame_cut, length-ad_frame, within}
 use Rattle.sl_tcflow.specs.AcceptedUnit.{views_of, views_on, events_of, unit_of, unit_by, accepted_units}
-use Rattle.sl_tcflow.specs.Canonical.{AreDeliverable, IsFormat}
+use Rattle.sl_tcflow.specs.FormDelivery.{AreDeliverable, IsFormat}
 use Rattle.sl_tcflow.specs.Fits.{FitsOn, FitsTc}
-use Rattle.sl_tcflow.specs.TcNormalForm.{units_of_maps, frames_of_units, channel_frames, tc_frames_form}
+use Rattle.sl_tcflow.specs.TcNormalForm.{units_of_maps, frames_of_units, vc_frames, tc_frames_form}
 use Rattle.sl_fields.proofs.ListLemmas.{each-at, each-both, each-map, each-weaker}
 use Rattle.sl_tcflow.proofs.lemmas.Each.{each-flat_map_range, own_part}
 use Rattle.sl_tcflow.proofs.lemmas.Series.Part.{packet_size}
@@ -112,7 +112,7 @@ module _ (format : TcFormat) (spacecraft : ℕ) (is : IsFormat format) (known : 
     units_on vc = units_of_maps (has_vc plain vc) (segment_room_of format) 0 (lists_on lists vc)
 
     abbrev frames_on : ℕ → List (List ℕ)
-    frames_on vc = channel_frames format spacecraft (has_vc plain vc) (start vc) vc (lists_on lists vc)
+    frames_on vc = vc_frames format spacecraft (has_vc plain vc) (start vc) vc (lists_on lists vc)
 
     each_unit : (vc : ℕ) → vc < 64 → AllByRecursion (IsUnit format) (units_on vc)
     each_unit vc below = are_units lists vc (has_vc plain vc) are.each (fits vc below)

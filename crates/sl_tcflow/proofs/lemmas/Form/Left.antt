@@ -13,7 +13,7 @@ use Rattle.sl_packet.specs.Delivered.{PacketLists, channel_count, list_at}
 use Rattle.sl_tcframe.specs.AdFrame.{segment_room_of, ad_frame}
 use Rattle.sl_tcframe.specs.TcFrame.{TcFormat}
 use Rattle.sl_tcframe.specs.VcSet.{has_vc}
-use Rattle.sl_tcflow.specs.Form.{IsPlace, channels_left, form_left, maps_left, ns_after, piece_of, AddsPiece}
+use Rattle.sl_tcflow.specs.Form.{IsPlace, vcs_left, form_left, maps_left, ns_after, piece_of, AddsPiece}
 use Rattle.sl_tcflow.specs.TcNormalForm.{units_of_packet, units_of_maps, frames_of_units, tc_normal_form_of}
 use Rattle.sl_tcflow.proofs.lemmas.Series.Part.{some_parts}
 use Rattle.sl_tcflow.proofs.lemmas.Form.Pushed.{frames_from_same, frames_from-append}
@@ -44,7 +44,7 @@ module _ (format : TcFormat) (spacecraft : ℕ) (starts plain : List ℕ) (lists
   on_maps vc = maps_left format spacecraft (no_headers vc) vc
 
   abbrev on_channels : ℕ → ℕ → List ℕ
-  on_channels = channels_left format spacecraft starts plain lists
+  on_channels = vcs_left format spacecraft starts plain lists
 
   -- the octets to come, by virtual channel and MAP
   left_is : (vc map_id channel framed ns : ℕ) → map_id < 64 → channel ≡ 64 * vc + map_id

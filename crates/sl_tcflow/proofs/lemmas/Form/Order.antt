@@ -7,15 +7,15 @@ use Rattle.sl_tcframe.specs.TcFrame.{TcFormat, TcView, Ad}
 use Rattle.sl_tcframe.specs.VcSet.{has_vc}
 use Rattle.sl_tcframe.proofs.AdFrameLemmas.{ad_frame_back}
 use Rattle.sl_tcflow.specs.AcceptedUnit.{views_on}
-use Rattle.sl_tcflow.specs.Canonical.{CanBeWritten, IsNotSkipped, NoFrameIsSkipped}
-use Rattle.sl_tcflow.specs.FormOrder.{form_views, ChannelsNeverFall, MapsNeverFall, NsCounts}
+use Rattle.sl_tcflow.specs.FormDelivery.{CanBeWritten, IsNotSkipped, NoFrameIsSkipped}
+use Rattle.sl_tcflow.specs.FormOrder.{form_views, VcsNeverFall, MapsNeverFall, NsCounts}
 use Rattle.sl_tcflow.specs.Receiver.{map_of}
 use Rattle.sl_tcflow.specs.Series.{header_at}
 use Rattle.sl_tcflow.specs.TcNormalForm.{units_of_maps}
 use Rattle.sl_fields.specs.NeverFall.{NeverFall}
 use Rattle.sl_fields.proofs.ListLemmas.{each-map, each-weaker}
 use Rattle.sl_fields.proofs.NeverFallLemmas.{lower, then_later}
-use Rattle.sl_tcflow.proofs.lemmas.Form.Canonical.{views_are}
+use Rattle.sl_tcflow.proofs.lemmas.Form.Delivery.{views_are}
 use Rattle.sl_tcflow.proofs.lemmas.Form.Frames.{channel_back, each_on, on_channel, units_on, views_by, views_from}
 use Rattle.sl_tcflow.proofs.lemmas.Series.Segment.{flat_units, map_of_unit, packets_parts, segments_of_packet, unit_made}
 
@@ -77,8 +77,8 @@ module _ (format : TcFormat) (spacecraft : ℕ) (starts plain : List ℕ) (lists
   abbrev pub units : ℕ → List (List ℕ)
   units vc = units_on format spacecraft can.is_format can.spacecraft_fits starts plain lists can.deliverable can.fit vc
 
-pub channels_never_fall : ChannelsNeverFall
-channels_never_fall format spacecraft starts plain lists can =
+pub vcs_never_fall : VcsNeverFall
+vcs_never_fall format spacecraft starts plain lists can =
     subst (λ views. NeverFall 0 (map (λ (view : TcView). view.vc) views))
     (sym (views_are format spacecraft starts plain lists can.is_format can.spacecraft_fits can.deliverable can.fit
     ∙ views_by format spacecraft can.is_format can.spacecraft_fits starts plain lists can.deliverable can.fit 0 64 (omega arith)))

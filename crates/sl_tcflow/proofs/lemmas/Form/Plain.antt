@@ -10,7 +10,7 @@ use Rattle.sl_tcframe.specs.TcFrame.{TcFormat}
 use Rattle.sl_tcflow.specs.Fits.{FitsOn}
 use Rattle.sl_tcflow.specs.Reception.{packets_of_segments}
 use Rattle.sl_tcflow.specs.Series.{segment_in, segments_on, whole_segment}
-use Rattle.sl_tcflow.specs.TcNormalForm.{segment_count, piece_at, flags_at, units_of_maps}
+use Rattle.sl_tcflow.specs.TcNormalForm.{segment_count, octets_at, flags_at, units_of_maps}
 use Rattle.sl_fields.proofs.ListLemmas.{each-at}
 use Rattle.sl_tcflow.proofs.lemmas.Series.Part.{packet_size, packets_back}
 use Rattle.sl_tcflow.proofs.lemmas.Series.Segment.{on_all, on_none, packets_parts, part_at, parts_of_map, segments_of_packet, unit_made, units_are_packets, units_are_segments}
@@ -50,7 +50,7 @@ whole_part : (packet : List ℕ) → IsPacket packet → segments_of_packet most
 whole_part packet is =
     let one = one_part packet is in
     ap (λ n. map (part_at most 0 packet) (range_with_len 0 n)) one
-    ∙ ap (λ n. (let h : SegmentFields = record { flags = flags_at n 0; map = 0 } in h, piece_at most packet 0) ∷ []) one
+    ∙ ap (λ n. (let h : SegmentFields = record { flags = flags_at n 0; map = 0 } in h, octets_at most packet 0) ∷ []) one
     ∙ ap (λ (octets : List ℕ). (let h : SegmentFields = record { flags = 3; map = 0 } in h, octets) ∷ []) (take_all most packet (packet_size packet is).1)
 
 whole_parts : (packets : List (List ℕ)) → AllByRecursion IsPacket packets

@@ -10,7 +10,7 @@ use Rattle.std.proofs.Math.Nat.{suc-mul, zero-mul, div-lt_iff_lt-mul, le-div_iff
 use Rattle.sl_fields.specs.SegmentHeader.{sequence_flags}
 use Rattle.sl_tcframe.specs.AdFrame.{ad_frame, segment_unit}
 use Rattle.sl_tcframe.specs.TcFrame.{TcFormat}
-use Rattle.sl_tcflow.specs.TcNormalForm.{segment_count, flags_at, segment_of, units_of_packet, frames_of_units}
+use Rattle.sl_tcflow.specs.TcNormalForm.{segment_count, flags_at, segment_at, units_of_packet, frames_of_units}
 
 module _ (format : TcFormat) (spacecraft vc : ℕ) where
   abbrev frames_from : ℕ → List (List ℕ) → List (List ℕ)
@@ -64,7 +64,7 @@ is_last_one room packet number some there = grind (arith, suc-mul, leb_tells, co
 
 module _ (format : TcFormat) (spacecraft vc map_id : ℕ) (base : List ℕ) (ns room : ℕ) (packet : List ℕ) where
   abbrev unit_at : ℕ → List ℕ
-  unit_at = segment_of room map_id packet
+  unit_at = segment_at room map_id packet
 
   -- the units of the first segments of the packet
   abbrev units_to : ℕ → List (List ℕ)

@@ -9,8 +9,8 @@ use Rattle.sl_tcframe.specs.TcFrame.{TcView, Content, Ad, Bd, Unlock, SetVr}
 use Rattle.sl_tcflow.specs.AcceptedUnit.{unit_by}
 use Rattle.sl_tcflow.specs.Farms.{verdict_on}
 use Rattle.sl_tcflow.specs.Incomplete.{if_fits, incomplete_of}
-use Rattle.sl_tcflow.specs.IncompleteSteps.{extended, incomplete_after, packets_after, packets_of_service_unit, service_unit_ended}
-use Rattle.sl_tcflow.specs.Receiver.{ended_by, map_by, map_of, segment_by, unit_channel, held_in, octets_of_series}
+use Rattle.sl_tcflow.specs.IncompleteSteps.{extended, incomplete_after, packets_after, packets_of_service_unit, service_unit_after}
+use Rattle.sl_tcflow.specs.Receiver.{ended_by, unit_map, map_of, segment_by, unit_channel, incomplete_octets_on, octets_of_series}
 use Rattle.sl_tcflow.specs.Reception.{packets_ended, packets_of_segments, segments_of}
 use Rattle.sl_tcflow.specs.ReceptionParameters.{ReceptionParameters, is_plain}
 use Rattle.sl_tcflow.specs.Recording.{channel_at, packets_of_channel}
@@ -43,7 +43,7 @@ module _ (held : Option (List ℕ)) (next : List ℕ) where
       → length (octets_of_series (if first then if_fits octets else if continuing then extended held octets else None)) ≤ length (octets_of_series held) + length octets
   chosen_most first continuing = grind (arith, fitting, extending)
 
-  goes_on : (flags : ℕ) → flags ≢ 3 → flags ≢ 2 → flags_of next ≡ flags → service_unit_ended held next ≡ None
+  goes_on : (flags : ℕ) → flags ≢ 3 → flags ≢ 2 → flags_of next ≡ flags → service_unit_after held next ≡ None
   goes_on flags not_3 not_2 is = grind (arith, ne_eqb)
 
   ends : flags_of next ≢ 1 → flags_of next ≢ 0 → incomplete_after held next ≡ None
@@ -93,9 +93,9 @@ module _ (r : ReceptionParameters) (views : List TcView) (next : TcView) where
 
   -- the segments of the frame's own MAP before the frame
   abbrev own : List (List ℕ)
-  own = segments_of r next.vc (map_by r next) views
+  own = segments_of r next.vc (unit_map r next) views
 
-  on_none : (map_id : ℕ) → map_id ≢ map_by r next → segments_on map_id units ≡ []
+  on_none : (map_id : ℕ) → map_id ≢ unit_map r next → segments_on map_id units ≡ []
   on_none map_id other =
       elim (none_or_accepted (is_plain r next.vc) (verdict_on r views next) next.content) [
         | inl none ↦ ap (segments_on map_id) none
@@ -108,25 +108,25 @@ module _ (r : ReceptionParameters) (views : List TcView) (next : TcView) where
   segments_other vc map_id other = grind (arith, eqb_tells, segments_next, on_none, append-nil, other_channel)
 
   -- a frame without an accepted unit adds nothing to the segments of its own channel
-  own_none : units ≡ [] → segments_of r next.vc (map_by r next) after ≡ own
+  own_none : units ≡ [] → segments_of r next.vc (unit_map r next) after ≡ own
   own_none none = grind (arith, segments_next, append-nil)
 
-  own_next : (unit : List ℕ) → units ≡ unit ∷ [] → map_by r next ≡ (header_at unit).map → segments_of r next.vc (map_by r next) after ≡ own ++ unit ∷ []
+  own_next : (unit : List ℕ) → units ≡ unit ∷ [] → unit_map r next ≡ (header_at unit).map → segments_of r next.vc (unit_map r next) after ≡ own ++ unit ∷ []
   own_next unit is map_is = grind (arith, segments_next, eq-eqb)
 
   ended_of : (unit : List ℕ) → units ≡ unit ∷ [] → ended_by r views next ≡ packets_ended own unit
   ended_of unit is = ap (flat_map (packets_ended own)) is ∙ append-nil (packets_ended own unit)
 
-  own_packets : packets_of_segments (segments_of r next.vc (map_by r next) after) ≡ packets_of_segments own ++ ended_by r views next
+  own_packets : packets_of_segments (segments_of r next.vc (unit_map r next) after) ≡ packets_of_segments own ++ ended_by r views next
   own_packets = grind (arith, none_or_accepted, own_none, ended_none, append-nil, own_next, packets_next, ended_of)
 
-  own_held : length (ended_by r views next) + length (octets_of_series (incomplete_of (segments_of r next.vc (map_by r next) after)))
+  own_held : length (ended_by r views next) + length (octets_of_series (incomplete_of (segments_of r next.vc (unit_map r next) after)))
       ≤ length (octets_of_series (incomplete_of own)) + unit_len next.content
   own_held = grind (arith, none_or_accepted, own_none, ended_none, own_next, incomplete_next, ended_of, ended_next, ended_within)
 
   -- ---- the same by channel
 
-  of_channel : (channel : ℕ) → channel ≡ unit_channel r next → (channel / 64 ≡ next.vc) × (channel % 64 ≡ map_by r next)
+  of_channel : (channel : ℕ) → channel ≡ unit_channel r next → (channel / 64 ≡ next.vc) × (channel % 64 ≡ unit_map r next)
   of_channel channel is = let small = small_map (is_plain r next.vc) next.content in (omega (arith, is, small), omega (arith, is, small))
 
   channel_is : (channel : ℕ) → channel_at (channel / 64) (channel % 64) ≡ channel
@@ -140,12 +140,12 @@ module _ (r : ReceptionParameters) (views : List TcView) (next : TcView) where
   packets_other channel other = ap packets_of_segments (segments_other (channel / 64) (channel % 64) (λ e. other (sym (channel_is channel) ∙ e)))
 
   pub held_own : (channel : ℕ) → channel ≡ unit_channel r next
-      → length (ended_by r views next) + length (held_in r after channel) ≤ length (held_in r views channel) + unit_len next.content
+      → length (ended_by r views next) + length (incomplete_octets_on r after channel) ≤ length (incomplete_octets_on r views channel) + unit_len next.content
   held_own channel is = grind (arith, of_channel, own_held)
 
   pub incomplete_other : (channel : ℕ) → channel ≢ unit_channel r next
       → incomplete_of (segments_of r (channel / 64) (channel % 64) after) ≡ incomplete_of (segments_of r (channel / 64) (channel % 64) views)
   incomplete_other channel other = grind (arith, segments_other, channel_is)
 
-  pub held_other : (channel : ℕ) → channel ≢ unit_channel r next → held_in r after channel ≡ held_in r views channel
+  pub held_other : (channel : ℕ) → channel ≢ unit_channel r next → incomplete_octets_on r after channel ≡ incomplete_octets_on r views channel
   held_other channel other = ap octets_of_series (incomplete_other channel other)

@@ -18,7 +18,7 @@ use Rattle.sl_tcframe.specs.declared.tc_frame.TcSkip.{TcSkip}
 use Rattle.sl_tcframe.specs.declared.tc_frame.TcSkip.TheVariants.{Long}
 use Rattle.sl_tcframe.proofs.ReadLemmas.{is_read}
 use Rattle.sl_tcflow.specs.AcceptedUnit.{accepted_units, views_on, events_of, unit_of, views_of}
-use Rattle.sl_tcflow.specs.Canonical.{RecordedListsFit}
+use Rattle.sl_tcflow.specs.FormDelivery.{RecordedListsFit}
 use Rattle.sl_tcflow.specs.Reception.{packets_of_series, packets_of_segments, segments_of}
 use Rattle.sl_tcflow.specs.ReceptionParameters.{ReceptionParameters, is_plain, initial_vr}
 use Rattle.sl_tcflow.specs.Recording.{recorded_views, tc_lists}

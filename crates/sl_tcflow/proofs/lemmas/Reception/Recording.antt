@@ -8,7 +8,7 @@ use Rattle.sl_packet.specs.Packets.{packets_of, without_idle}
 use Rattle.sl_packet.proofs.PacketsLemmas.{each_has_packets}
 use Rattle.sl_packet.proofs.WithoutIdleLemmas.{without_idle_due}
 use Rattle.sl_tcframe.specs.TcFrame.{TcView}
-use Rattle.sl_tcflow.specs.Canonical.{RecordedListsAreDeliverable}
+use Rattle.sl_tcflow.specs.FormDelivery.{RecordedListsAreDeliverable}
 use Rattle.sl_tcflow.specs.Reception.{packets_of_series}
 use Rattle.sl_tcflow.specs.ReceptionParameters.{ReceptionParameters}
 use Rattle.sl_tcflow.specs.Recording.{map_channels, packets_of_channel, recorded_views}

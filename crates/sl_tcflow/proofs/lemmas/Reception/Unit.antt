@@ -13,7 +13,7 @@ use Rattle.sl_tcflow.specs.AcceptedUnit.{event_of, farm_after, unit_of, unit_by,
 use Rattle.sl_tcflow.specs.Farms.{verdict_on}
 use Rattle.sl_tcflow.specs.Incomplete.{incomplete_of}
 use Rattle.sl_tcflow.specs.IncompleteSteps.{incomplete_after, incomplete_with, packets_after, packets_with}
-use Rattle.sl_tcflow.specs.Receiver.{AreIncomplete, IsIncompleteAround, map_by, map_of, segment_by, unit_channel, ended_by}
+use Rattle.sl_tcflow.specs.Receiver.{AreIncomplete, IsIncompleteAround, unit_map, map_of, segment_by, unit_channel, ended_by}
 use Rattle.sl_tcflow.specs.Reception.{packets_ended, segments_of}
 use Rattle.sl_tcflow.specs.ReceptionParameters.{ReceptionParameters, is_plain}
 use Rattle.sl_tcflow.specs.Recording.{channel_at}
@@ -67,7 +67,7 @@ some_carried vc plain Command content read is = absurd (cc)
 pub record IsReadNext (r : ReceptionParameters) (views : List TcView) (next : TcView) (read : SegmentView) : Type 0 where
   pub segment : List ℕ
   pub accepted : segment_by r views next ≡ segment ∷ []
-  pub map_id : map_by r next ≡ (header_at segment).map
+  pub map_id : unit_map r next ≡ (header_at segment).map
   pub verdict : verdict_on r views next ≡ Accept
   pub view : read ≡ segment_view next.vc segment
 
@@ -89,7 +89,7 @@ module _ (r : ReceptionParameters) (views : List TcView) (next : TcView) (plain 
       }
 
   -- the MAP of the unit, accepted or not
-  pub map_read_is : plain ≡ is_plain r next.vc → segment ≡ carried_segment next.vc plain next.content → map_read segment ≡ map_by r next
+  pub map_read_is : plain ≡ is_plain r next.vc → segment ≡ carried_segment next.vc plain next.content → map_read segment ≡ unit_map r next
   map_read_is headers carried =
       ap map_read carried ∙ map_carried next.vc plain next.content ∙ ap (λ b. map_of b next.content) headers
 
@@ -161,14 +161,14 @@ module _ (r : ReceptionParameters) (old : List (Option (List ℕ))) (views : Lis
   -- ---- the packets that end
 
   pub ended_more : AreIncomplete r old views → next.vc < 64 → segment_by r views next ≡ unit ∷ []
-      → map_by r next ≡ (header_at unit).map → index ≡ channel_at next.vc (header_at unit).map
+      → unit_map r next ≡ (header_at unit).map → index ≡ channel_at next.vc (header_at unit).map
       → ended_by r views next ≡ packets_after (at old index) unit
   ended_more are inside unit_is map_id_is here = grind (arith, append-nil, ended_next, map_fits)
 
   -- ---- where memory is asked for
 
   pub around_more : AreIncomplete r old views → next.vc < 64 → segment_by r views next ≡ unit ∷ []
-      → map_by r next ≡ (header_at unit).map → index ≡ channel_at next.vc (header_at unit).map
+      → unit_map r next ≡ (header_at unit).map → index ≡ channel_at next.vc (header_at unit).map
       → (at old index ≢ None) ⊎ (incomplete_after (at old index) unit ≢ None) → IsIncompleteAround r views next
   around_more are inside unit_is map_id_is here around = grind (arith, map_fits, segments_next, on_map, incomplete_next)
 
@@ -194,4 +194,4 @@ module _ (r : ReceptionParameters) (old : List (Option (List ℕ))) (views : Lis
   channel_read = ap (λ (s : SegmentView). s.channel) is.view ∙ ap (channel_at next.vc) (sym is.map_id)
 
 pub ended_none : (r : ReceptionParameters) (views : List TcView) (next : TcView) → segment_by r views next ≡ [] → ended_by r views next ≡ []
-ended_none r views next none = ap (flat_map (packets_ended (segments_of r next.vc (map_by r next) views))) none
+ended_none r views next none = ap (flat_map (packets_ended (segments_of r next.vc (unit_map r next) views))) none

@@ -12,7 +12,7 @@ use Rattle.sl_packet.specs.Packets.{packets_of}
 use Rattle.sl_packet.proofs.PacketsLemmas.{packets_of-packet}
 use Rattle.sl_tcflow.specs.Reception.{packets_of_series}
 use Rattle.sl_tcflow.specs.Series.{flags_of, IsSeries, whole, divided, SeriesAt, series_from, reassembled}
-use Rattle.sl_tcflow.specs.TcNormalForm.{segment_count, piece_at, flags_at, segment_of}
+use Rattle.sl_tcflow.specs.TcNormalForm.{segment_count, octets_at, flags_at, segment_at}
 use Rattle.sl_fields.proofs.ListLemmas.{each-append, each-weaker}
 use Rattle.sl_tcflow.proofs.lemmas.Form.Pushed.{counts_more}
 use Rattle.sl_tcflow.proofs.lemmas.Series.Segment.{unit_made, part_at, part_is, segments_of_packet, units_of_parts, header_of_unit, octets_of_unit}
@@ -22,7 +22,7 @@ use Rattle.sl_tcflow.proofs.lemmas.Series.Listed.{IsContinuing, series_at, begin
 
 module _ (room : ℕ) (packet : List ℕ) where
   abbrev part : ℕ → List ℕ
-  part = piece_at room packet
+  part = octets_at room packet
 
   pub parts_joined : (n : ℕ) → concat (map part (range_with_len 0 n)) ≡ take (n * room) packet
   parts_joined zero = let none = zero-mul room in ap (λ k. take k packet) (sym none)
@@ -41,7 +41,7 @@ module _ (room : ℕ) (packet : List ℕ) where
   some_parts some long = let none = zero-mul room in counts_more room packet 0 some (omega (arith, none, long))
 
 octets_of_parts : (room map_id : ℕ) (packet : List ℕ) (numbers : List ℕ)
-    → reassembled (map unit_made (map (part_at room map_id packet) numbers)) ≡ concat (map (piece_at room packet) numbers)
+    → reassembled (map unit_made (map (part_at room map_id packet) numbers)) ≡ concat (map (octets_at room packet) numbers)
 octets_of_parts room map_id packet [] = refl
 octets_of_parts room map_id packet (number ∷ numbers) = grind (arith, octets_of_unit, octets_of_parts room map_id packet numbers)
 
@@ -77,7 +77,7 @@ series_of_parts (suc (suc n)) unit flags some =
     (continuing (suc (suc n)) unit flags 1 n (omega arith) (omega arith)) (flags (suc n) ∙ last_of_many (suc (suc n)) (suc n) (omega arith) (omega arith)))
 
 pub units_are_series : (room map_id : ℕ) (packet : List ℕ) → 0 < room → map_id < 64 → 0 < length packet
-    → IsSeries (map (segment_of room map_id packet) (range_with_len 0 (segment_count room packet)))
+    → IsSeries (map (segment_at room map_id packet) (range_with_len 0 (segment_count room packet)))
 units_are_series room map_id packet some small long = grind (arith, series_of_parts, header_of_unit, part_is, some_parts)
 
 pub parts_are_series : (room map_id : ℕ) (packet : List ℕ) → 0 < room → map_id < 64 → 0 < length packet → IsSeries (map unit_made (segments_of_packet room map_id packet))

@@ -11,7 +11,7 @@ use Rattle.sl_fields.proofs.Octets.{length-octets_of}
 use Rattle.sl_fields.proofs.Packing.{packed_lt}
 use Rattle.sl_fields.proofs.SegmentHeaderLemmas.{segment_layout}
 use Rattle.sl_tcflow.specs.Series.{header_at, segment_data, segments_on}
-use Rattle.sl_tcflow.specs.TcNormalForm.{segment_count, piece_at, flags_at, segment_of, units_of_packet, units_of_maps}
+use Rattle.sl_tcflow.specs.TcNormalForm.{segment_count, octets_at, flags_at, segment_at, units_of_packet, units_of_maps}
 use Rattle.sl_fields.proofs.ListLemmas.{each-append, each-every, each-flat_map, each-map, each-weaker, filter_all, filter_none}
 
 -- ---- a segment
@@ -64,7 +64,7 @@ flags_fit count number = grind (arith, nat_tests)
 
 module _ (room map_id : ℕ) where
   abbrev pub part_at : List ℕ → ℕ → SegmentFields × List ℕ
-  part_at packet number = (record { flags = flags_at (segment_count room packet) number; map = map_id }, piece_at room packet number)
+  part_at packet number = (record { flags = flags_at (segment_count room packet) number; map = map_id }, octets_at room packet number)
 
   -- the segments of a packet, as headers and octets
   abbrev pub segments_of_packet : List ℕ → List (SegmentFields × List ℕ)
@@ -80,9 +80,9 @@ module _ (room map_id : ℕ) where
   packets_parts small packets = grind (arith, each-flat_map, each-every, packet_parts)
 
   -- the segments of a packet are its units
-  pub units_of_parts : (packet : List ℕ) (numbers : List ℕ) → map unit_made (map (part_at packet) numbers) ≡ map (segment_of room map_id packet) numbers
+  pub units_of_parts : (packet : List ℕ) (numbers : List ℕ) → map unit_made (map (part_at packet) numbers) ≡ map (segment_at room map_id packet) numbers
   units_of_parts packet [] = refl
-  units_of_parts packet (number ∷ numbers) = ap (λ l. segment_of room map_id packet number ∷ l) (units_of_parts packet numbers)
+  units_of_parts packet (number ∷ numbers) = ap (λ l. segment_at room map_id packet number ∷ l) (units_of_parts packet numbers)
 
 -- ---- the segments of a virtual channel's MAPs
 

@@ -4,9 +4,9 @@ use Rattle.std.proofs.Common.{◌≡◌, ℕ, ◌<◌, ◌==◌, ◌&&◌, Bool,
 use Rattle.std.specs.List.{AllByRecursion}
 use Rattle.std.specs.Prelude.{is_none}
 use Rattle.sl_fields.specs.SegmentHeader.{SegmentFields}
-use Rattle.sl_tcflow.specs.Anomaly.{dropped_of, long_of, octets_held, of_segment, stray_of, NoPlainSeriesIsIncomplete, PlainUnitHasTailAlone}
+use Rattle.sl_tcflow.specs.Anomaly.{dropped_of, long_of, number_held, of_segment, stray_of, NoPlainSeriesIsIncomplete, PlainUnitHasTailAlone}
 use Rattle.sl_tcflow.specs.Incomplete.{incomplete_of, exceeds_limit}
-use Rattle.sl_tcflow.specs.Series.{continues_by, flags_of, header_at, segment_data, segment_in, segments_on, whole_segment, PlainUnitIsWhole}
+use Rattle.sl_tcflow.specs.Series.{flags_continue, flags_of, header_at, segment_data, segment_in, segments_on, whole_segment, PlainUnitIsWhole}
 use Rattle.sl_fields.proofs.ListLemmas.{each-filter}
 use Rattle.sl_tcflow.proofs.lemmas.Series.Segment.{header_of_unit, octets_of_unit}
 
@@ -48,13 +48,13 @@ no_plain_series_is_incomplete r vc map_id views plain = grind (arith, none_on)
 
 module _ (list : List (List ℕ)) (unit : List ℕ) where
   not_stray : stray_of list (whole_segment unit) ≡ false
-  not_stray = ap (λ flags. continues_by flags && is_none (incomplete_of list)) (flags_of_whole unit)
+  not_stray = ap (λ flags. flags_continue flags && is_none (incomplete_of list)) (flags_of_whole unit)
 
   none_dropped : incomplete_of list ≡ None → dropped_of list (whole_segment unit) ≡ None
   none_dropped none = grind (arith, flags_of_whole)
 
   none_long : long_of list (whole_segment unit) ≡ false
-  none_long = ap (λ flags. continues_by flags && exceeds_limit (octets_held list) (length (segment_data (whole_segment unit)))) (flags_of_whole unit)
+  none_long = ap (λ flags. flags_continue flags && exceeds_limit (number_held list) (length (segment_data (whole_segment unit)))) (flags_of_whole unit)
 
 -- the report on the frame's unit, if it is accepted
 told_of_whole : {X : Type 0} (none : X) (told : List ℕ → X) → ((unit : List ℕ) → told (whole_segment unit) ≡ none)

@@ -1,4 +1,4 @@
-use Rattle.sl_tmflow.proofs.lemmas.Form.Canonical.{is_frames, none_is_skipped, delivers}
+use Rattle.sl_tmflow.proofs.lemmas.Form.Delivery.{is_frames, none_is_skipped, delivers}
 use Rattle.sl_tmflow.proofs.laws.normal_form_delivers_its_packets.Goals as goal
 
 pub returns : goal.returns

@@ -6,7 +6,7 @@ use Rattle.sl_packet.specs.Packet.{IsPacket}
 use Rattle.sl_packet.specs.Packets.{without_idle}
 use Rattle.sl_packet.proofs.WithoutIdleLemmas.{without_idle_due}
 use Rattle.sl_tmframe.specs.TmFrame.{TmView}
-use Rattle.sl_tmflow.specs.Canonical.{RecordedListsAreDeliverable}
+use Rattle.sl_tmflow.specs.FormDelivery.{RecordedListsAreDeliverable}
 use Rattle.sl_tmflow.specs.VirtualChannel.{views_on}
 use Rattle.sl_tmflow.specs.Delivery.{Delivery, IsDelivery, deliveries_of, packets_delivered}
 use Rattle.sl_tmflow.specs.Recording.{packets_of_channel, recorded_views}

@@ -20,7 +20,7 @@ use Rattle.sl_tmflow.specs.NormalForm.{channel_frame, channel_frames, fill_of, f
 use Rattle.sl_tmflow.specs.FormModel.{IsTmForm, octets_left}
 use Rattle.sl_tmflow.specs.declared.form.Heading.{Heading}
 use Rattle.sl_tmflow.specs.declared.form.TmForm.TheInside.{Inside}
-use Rattle.sl_tmflow.proofs.lemmas.Form.Canonical.{short_room, wide_room}
+use Rattle.sl_tmflow.proofs.lemmas.Form.Delivery.{short_room, wide_room}
 use Rattle.sl_tmflow.proofs.lemmas.Form.FieldStart.{found_in}
 use Rattle.sl_tmflow.proofs.lemmas.Form.Fill.{fill_is_least, filled_octets, filled_whole, no_filling}
 use Rattle.sl_tmflow.proofs.lemmas.Form.Frames.{none_beyond_filling}

@@ -13,12 +13,12 @@ use Rattle.sl_fields.proofs.NeverFallLemmas.{lower, then_later}
 use Rattle.sl_packet.specs.Delivered.{IsDeliverable}
 use Rattle.sl_tmframe.specs.PacketFrame.{field_room_of}
 use Rattle.sl_tmframe.specs.TmFrame.{TmFormat, TmView}
-use Rattle.sl_tmflow.specs.Canonical.{IsFormat}
+use Rattle.sl_tmflow.specs.FormDelivery.{IsFormat}
 use Rattle.sl_tmflow.specs.VirtualChannel.{views_on, packet_data}
 use Rattle.sl_tmflow.specs.FormOrder.{CarriesPackets, ChannelsNeverFall, EachCarriesPackets, McCounts, PacketsLieEndToEnd, VcCounts}
 use Rattle.sl_tmflow.specs.NormalForm.{channel_frames, data_field_of, first_of, with_filling}
 use Rattle.sl_tmflow.specs.PacketStart.{packet_offsets}
-use Rattle.sl_tmflow.proofs.lemmas.Form.Canonical.{channel_of_own, channel_views, filled_size, first_channel, form_parts, form_views, next, other_channel, own_channel, views_are}
+use Rattle.sl_tmflow.proofs.lemmas.Form.Delivery.{channel_of_own, channel_views, filled_size, first_channel, form_parts, form_views, next, other_channel, own_channel, views_are}
 use Rattle.sl_tmflow.proofs.lemmas.Form.CutDelivery.{view_at}
 
 -- ---- numbers that count

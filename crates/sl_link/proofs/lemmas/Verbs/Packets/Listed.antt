@@ -108,11 +108,11 @@ module _ (k : Kind) where
 
 -- ---- TM
 
-tm_lines : (views : List TmView) (r : Result TmView TmSkip) → tm_packet_lines views r ≡ lines_on VirtualChannel (vc_of r) (without_idle (tm_deliver.ended_in views r))
-tm_lines views r = grind arith
+tm_lines_are : (views : List TmView) (r : Result TmView TmSkip) → tm_packet_lines views r ≡ lines_on VirtualChannel (vc_of r) (without_idle (tm_deliver.ended_in views r))
+tm_lines_are views r = grind arith
 
 pub tm_printed : (p : Parameters) → ArePrinted (tm_kind p) VirtualChannel (packets_tm_lines p)
-tm_printed p before frame = tm_lines (views_of (tm_format p) p.spacecraft before) (tm_deliver.as_read p frame)
+tm_printed p before frame = tm_lines_are (views_of (tm_format p) p.spacecraft before) (tm_deliver.as_read p frame)
 
 pub tm_packets_are_listed : TmPacketsAreListed
 tm_packets_are_listed p recording = packets_are_listed (tm_kind p) (tm_delivered p) VirtualChannel (packets_tm_lines p) (tm_printed p) recording
@@ -120,11 +120,11 @@ tm_packets_are_listed p recording = packets_are_listed (tm_kind p) (tm_delivered
 -- ---- TC
 
 -- the channel of a unit is named by its virtual channel and its MAP
-tc_lines : (r : ReceptionParameters) (views : List TcView) (read : Result TcView TcSkip) → tc_packet_lines r views read ≡ lines_on Map (unit_channel_of r read) (without_idle (tc_deliver.ended_in r views read))
-tc_lines r views read = grind (arith, small_map)
+tc_lines_are : (r : ReceptionParameters) (views : List TcView) (read : Result TcView TcSkip) → tc_packet_lines r views read ≡ lines_on Map (unit_channel_of r read) (without_idle (tc_deliver.ended_in r views read))
+tc_lines_are r views read = grind (arith, small_map)
 
 pub tc_printed : (p : Parameters) → ArePrinted (tc_kind p) Map (packets_tc_lines p)
-tc_printed p before frame = tc_lines (reception_of p) (accepted.views_of (tc_format p) p.spacecraft before) (tc_deliver.as_read p frame)
+tc_printed p before frame = tc_lines_are (reception_of p) (accepted.views_of (tc_format p) p.spacecraft before) (tc_deliver.as_read p frame)
 
 pub tc_packets_are_listed : TcPacketsAreListed
 tc_packets_are_listed p recording = packets_are_listed (tc_kind p) (tc_delivered p) Map (packets_tc_lines p) (tc_printed p) recording

@@ -1,9 +1,9 @@
 use Rattle.std.proofs.Common.{sym, ◌∙◌, arith, ap}
-use Rattle.sl_tcflow.specs.Canonical.{IsFormat}
+use Rattle.sl_tcflow.specs.FormDelivery.{IsFormat}
 use Rattle.sl_tcflow.specs.Form.{form_left}
 use Rattle.sl_tcflow.specs.ReceptionParameters.{ReceptionParameters}
 use Rattle.sl_tcflow.specs.Recording.{tc_lists}
-use Rattle.sl_tcflow.proofs.lemmas.Form.Canonical.{normal_form_delivers}
+use Rattle.sl_tcflow.proofs.lemmas.Form.Delivery.{normal_form_delivers}
 use Rattle.sl_tcflow.proofs.lemmas.Form.Left.{all_left}
 use Rattle.sl_tcflow.proofs.form.TcForm.new.Goals as goal
 

@@ -2,8 +2,8 @@ use Rattle.std.proofs.Common.{arith, length-take-le, take}
 use Rattle.std.specs.List.{AllByRecursion}
 use Rattle.sl_fields.proofs.ListLemmas.{each-take}
 use Rattle.sl_packet.specs.Delivered.{IsDeliverable}
-use Rattle.sl_tmflow.specs.Canonical.{IsFormat}
-use Rattle.sl_tmflow.proofs.lemmas.Form.Canonical.{delivers, short_room, wide_room}
+use Rattle.sl_tmflow.specs.FormDelivery.{IsFormat}
+use Rattle.sl_tmflow.proofs.lemmas.Form.Delivery.{delivers, short_room, wide_room}
 use Rattle.sl_tmflow.proofs.lemmas.Form.Left.{all_left}
 use Rattle.sl_tmflow.proofs.form.TmForm.new.Goals.{After-len}
 use Rattle.sl_tmflow.proofs.form.TmForm.new.Goals as goal

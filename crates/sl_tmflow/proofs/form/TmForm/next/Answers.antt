@@ -5,7 +5,7 @@ use Rattle.std.specs.Vec.{vec_items}
 use Rattle.sl_packet.proofs.StoppingLemmas.{on_err}
 use Rattle.sl_tmframe.specs.PacketFrame.{field_room_of}
 use Rattle.sl_tmflow.specs.Form.{fields_in, field_frames, filled_up, form_left, frames_of, start_after}
-use Rattle.sl_tmflow.proofs.lemmas.Form.Canonical.{short_room, wide_room}
+use Rattle.sl_tmflow.proofs.lemmas.Form.Delivery.{short_room, wide_room}
 use Rattle.sl_tmflow.proofs.lemmas.Form.Left.{fills_up, next_comes, none_comes, octets_come, some_filled, some_frames, takes_packet}
 use Rattle.sl_tmflow.proofs.form.TmForm.next.Goals.{After-after-self-inside, Else-not-is_empty, In_default}
 use Rattle.sl_tmflow.proofs.form.TmForm.next.Goals as goal

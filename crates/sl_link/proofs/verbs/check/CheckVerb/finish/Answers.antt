@@ -39,7 +39,7 @@ pub returns-clause-counts : goal.returns-clause-counts
 returns-clause-counts g c = λ frames h.
     let p = c.args.managed.now in
     let inside : length (concat frames) ≤ c.args.octets = omega (arith, octets_counted h, octets_counted c.requires.1, c.requires.2) in
-    c.totals-totals.ensures ∙ all_counted (g.D.Delivery.kind p) (g.D.Checked.open_at p) frames c.octets-offset.result c.args.octets (c.octets-offset.ensures ∙ octets_counted h) inside (anomalies_by g.D.Checked.lines_of (g.D.Delivery.found p)) h
+    c.with_remainder-totals.ensures ∙ all_counted (g.D.Delivery.kind p) (g.D.Checked.open_at p) frames c.octets-offset.result c.args.octets (c.octets-offset.ensures ∙ octets_counted h) inside (anomalies_by g.D.Checked.lines_of (g.D.Delivery.found p)) h
     c.remainder_lines-remainders.ensures.number (c.in_ok-incomplete.ensures.number p frames h.processed)
 
 pub returns-clause-lines : goal.returns-clause-lines
@@ -53,4 +53,4 @@ returns-clause-lines g c = λ frames h.
     subst (λ l. Adds g.W.Write.contents c.args.out.now (l ++ totals_line (check_counts_in k (anomalies_by g.D.Checked.lines_of (g.D.Delivery.found p)) (g.D.Checked.open_at p) frames (c.args.octets - length (concat frames)))) (record c.make_room-2.new.self { lines = c.push_totals.new.lines }))
     (end_text k (g.D.Checked.open_at p) frames offset c.args.octets (c.octets-offset.ensures ∙ octets_counted h) inside)
     (subst (λ n. Adds g.W.Write.contents c.args.out.now ((concat (remainder_anomaly offset (c.args.octets - offset)) ++ concat (flat_map (g.D.Checked.open_at p c.args.octets frames) k.channels)) ++ totals_line n) (record c.make_room-2.new.self { lines = c.push_totals.new.lines }))
-    (returns-clause-counts g c frames h) (adds_both lines (adds_lines _ _ _ (totals_line c.totals-totals.result) refl c.push_totals.ensures)))
+    (returns-clause-counts g c frames h) (adds_both lines (adds_lines _ _ _ (totals_line c.with_remainder-totals.result) refl c.push_totals.ensures)))

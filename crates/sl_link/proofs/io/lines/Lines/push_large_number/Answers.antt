@@ -1,12 +1,12 @@
 use Rattle.std.proofs.Common.{◌≡◌, [], ◌∷◌, ◌++◌, ◌%◌, ◌<◌, ◌∙◌, ℕ, List, ap, arith, slice_index_or, sym}
 use Rattle.sl_link.specs.Io.Digits.{four_digits}
 use Rattle.sl_link.proofs.lemmas.Io.Digits.{decimal_by_four, decimal_of_four, decimal_of_three}
-use Rattle.sl_link.proofs.io.lines.Lines.push_long.Goals as goal
+use Rattle.sl_link.proofs.io.lines.Lines.push_large_number.Goals as goal
 
 pub returns-in-Some-clause-text : goal.returns-in-Some-clause-text
 returns-in-Some-clause-text c =
     let whole = decimal_by_four c.args.number (omega (arith, c.if-number-ge10000.true)) c.ranges.number.fits in
-    cc (c.push_two.ensures.text, c.in-Some.ensures.digits, c.last_four-last.ensures, whole)
+    cc (c.push_both.ensures.text, c.in-Some.ensures.digits, c.last_four-last.ensures, whole)
 
 pub returns-in-None-clause-text : goal.returns-in-None-clause-text
 returns-in-None-clause-text c =
@@ -31,4 +31,4 @@ returns-else-number-ge1000-clause-text c =
     ∙ ap (λ (d : List ℕ). c.args.self.now ++ d)
     (ap (λ (d : List ℕ). slice_index_or d 1 0 ∷ slice_index_or d 2 0 ∷ slice_index_or d 3 0 ∷ [])
     (short c.args.number _ (omega (arith, c.if-number-ge10000.false)) c.last_four-last.ensures)
-    ∙ sym (decimal_of_three c.args.number c.requires.long (omega (arith, c.if-number-ge1000.false))))
+    ∙ sym (decimal_of_three c.args.number c.requires.large (omega (arith, c.if-number-ge1000.false))))

@@ -21,12 +21,12 @@ pub record AreDeliverable (lists : List (List (List ℕ))) : Type 0 where
   pub each : AllByRecursion (AllByRecursion IsDeliverable) lists
 
 -- a format, a spacecraft, and 4,096 lists of packets that frames of the format can carry
-pub record CanBeWritten (format : TcFormat) (spacecraft : ℕ) (plain : List ℕ) (lists : List (List (List ℕ)))
+pub record CanBeWritten (format : TcFormat) (spacecraft : ℕ) (plain_vcs : List ℕ) (lists : List (List (List ℕ)))
     : Type 0 where
   pub is_format : IsFormat format
   pub spacecraft_fits : spacecraft ≤ 1023
   pub deliverable : AreDeliverable lists
-  pub fit : FitsTc format plain lists
+  pub fit : FitsTc format plain_vcs lists
 
 -- the frame is read, and so not skipped
 abbrev pub IsNotSkipped : TcFormat → ℕ → List ℕ → Type 0
@@ -48,28 +48,29 @@ RecordedListsFit =
     (format : TcFormat) (spacecraft : ℕ) (r : ReceptionParameters) (recording : List ℕ)
     → FitsTc format r.plain (tc_lists format spacecraft r recording)
 
--- The normal form is its frames end to end: no octet remains. (Of the laws here some write out what
--- `CanBeWritten` puts together.)
+-- The normal form is its frames end to end: no octet remains. Here and in `NoFrameIsLong` the
+-- premises are the four fields of `CanBeWritten`, one by one, and in `NormalFormDelivers` these and
+-- `AreStarts`: these four and the record are the same premise.
 abbrev pub NormalFormIsFrames : Type 0
 NormalFormIsFrames =
-    (format : TcFormat) (spacecraft : ℕ) (starts plain : List ℕ) (lists : List (List (List ℕ)))
-    → IsFormat format → spacecraft ≤ 1023 → AreDeliverable lists → FitsTc format plain lists
-    → IsTcDelimited format (tc_normal_form_of format spacecraft starts plain lists)
-    (tc_frames_form format spacecraft starts plain lists) []
+    (format : TcFormat) (spacecraft : ℕ) (starts plain_vcs : List ℕ) (lists : List (List (List ℕ)))
+    → IsFormat format → spacecraft ≤ 1023 → AreDeliverable lists → FitsTc format plain_vcs lists
+    → IsTcDelimited format (tc_normal_form_of format spacecraft starts plain_vcs lists)
+    (tc_frames_form format spacecraft starts plain_vcs lists) []
 
 -- No frame of the normal form is longer than the managed greatest length.
 abbrev pub NoFrameIsLong : Type 0
 NoFrameIsLong =
-    (format : TcFormat) (spacecraft : ℕ) (starts plain : List ℕ) (lists : List (List (List ℕ)))
-    → IsFormat format → spacecraft ≤ 1023 → AreDeliverable lists → FitsTc format plain lists
-    → AllByRecursion (λ frame. length frame ≤ format.max) (tc_frames_form format spacecraft starts plain lists)
+    (format : TcFormat) (spacecraft : ℕ) (starts plain_vcs : List ℕ) (lists : List (List (List ℕ)))
+    → IsFormat format → spacecraft ≤ 1023 → AreDeliverable lists → FitsTc format plain_vcs lists
+    → AllByRecursion (λ frame. length frame ≤ format.max) (tc_frames_form format spacecraft starts plain_vcs lists)
 
 -- No frame of the normal form is skipped.
 abbrev pub NoFrameIsSkipped : Type 0
 NoFrameIsSkipped =
-    (format : TcFormat) (spacecraft : ℕ) (starts plain : List ℕ) (lists : List (List (List ℕ)))
-    → CanBeWritten format spacecraft plain lists
-    → AllByRecursion (IsNotSkipped format spacecraft) (tc_frames_form format spacecraft starts plain lists)
+    (format : TcFormat) (spacecraft : ℕ) (starts plain_vcs : List ℕ) (lists : List (List (List ℕ)))
+    → CanBeWritten format spacecraft plain_vcs lists
+    → AllByRecursion (IsNotSkipped format spacecraft) (tc_frames_form format spacecraft starts plain_vcs lists)
 
 -- Read as a recording, with the same initial V(R), the same virtual channels without segment
 -- headers and any window, the normal form delivers exactly the packets that it was made from.

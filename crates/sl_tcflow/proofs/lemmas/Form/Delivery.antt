@@ -10,7 +10,7 @@ use Rattle.sl_tcframe.specs.AdFrame.{segment_room_of}
 use Rattle.sl_tcframe.specs.TcFrame.{TcFormat}
 use Rattle.sl_tcframe.proofs.DelimitedLemmas.{delimited_once}
 use Rattle.sl_tcflow.specs.AcceptedUnit.{accepted_units, views_of}
-use Rattle.sl_tcflow.specs.Canonical.{IsFormat, AreDeliverable, NormalFormIsFrames, NoFrameIsLong, NormalFormDelivers}
+use Rattle.sl_tcflow.specs.FormDelivery.{IsFormat, AreDeliverable, NormalFormIsFrames, NoFrameIsLong, NormalFormDelivers}
 use Rattle.sl_tcflow.specs.Fits.{FitsTc}
 use Rattle.sl_tcflow.specs.Reception.{packets_of_segments, segments_of}
 use Rattle.sl_tcflow.specs.ReceptionParameters.{ReceptionParameters, is_plain, initial_vr}

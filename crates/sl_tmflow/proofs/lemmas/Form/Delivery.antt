@@ -13,7 +13,7 @@ use Rattle.sl_tmframe.specs.PacketFrame.{FitFrame, field_room_of, packet_frame, 
 use Rattle.sl_tmframe.specs.TmFrame.{TmFormat, TmView}
 use Rattle.sl_tmframe.proofs.DelimitedLemmas.{only_frames}
 use Rattle.sl_tmframe.proofs.PacketFrameLemmas.{length-packet_frame, packet_frame_back}
-use Rattle.sl_tmflow.specs.Canonical.{AreDeliverable, IsFormat, IsNotSkipped, NoFrameIsSkipped, NormalFormIsFrames, NormalFormDelivers}
+use Rattle.sl_tmflow.specs.FormDelivery.{AreDeliverable, IsFormat, IsNotSkipped, NoFrameIsSkipped, NormalFormIsFrames, NormalFormDelivers}
 use Rattle.sl_tmflow.specs.VirtualChannel.{views_of, views_on}
 use Rattle.sl_tmflow.specs.Delivery.{deliveries_of, packets_delivered}
 use Rattle.sl_tmflow.specs.NormalForm.{with_filling, data_field_of, first_of, channel_frame, channel_frames, frames_from_channel, normal_form}

@@ -34,7 +34,6 @@ pub(crate) fn push_packet(
 ) -> Result<u8, AllocError>
     requires spacecraft { heading.spacecraft ≤ 1023 }
     requires channel { heading.channel < channel_count }
-    requires segments { heading.plain ≡ false }
     // The frames are those of the packet, and N(S) rises by one with each, modulo 256. Each segment
     // has room for an octet of the packet at least. The frames have at most `2 * length + 7` octets
     // together (`PIECE_ROOM` in form.rt says why).

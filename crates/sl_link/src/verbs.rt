@@ -131,13 +131,9 @@ fn list_into<F: Framer, V: Verb, R: Read, W: Write>(
         out.new.writer.now (F.frames_of managed.now) (V.listing managed.now)
         managed.now.max_octets (length buffer.old) (V.may_refuse_memory managed.now) result }
 {
-    // A copy: `managed` is lent again after a call to which `lister`, a struct of references, was
-    // lent. After such a call the prover has lost what another reference refers to. (What `verb`
-    // and `out` are then, the lister's clause `took` says.)
-    let managed = *managed;
     let mut lister = Lister { verb, out };
-    let octets = read_recording(&managed, framer, &mut lister, reader, buffer)?;
-    let totals = verb.finish(&managed, octets, out)?;
+    let octets = read_recording(managed, framer, &mut lister, reader, buffer)?;
+    let totals = verb.finish(managed, octets, out)?;
     out.flush()?;
     Ok(totals)
 }

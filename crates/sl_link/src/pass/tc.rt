@@ -11,7 +11,7 @@ impl Framer for TcFramer {
 
     ghost frames_of = { tc_frames };
 
-    ghost waits = { λ framer p rest. TcWaits framer p rest };
+    ghost waits = { TcWaits };
 
     #[inline(always)]
     fn next_frame<'a, 'p: 'a>(&'a mut self, chunk: &mut &'p [u8]) -> Option<&'a [u8]> {

@@ -9,7 +9,7 @@ impl Framer for TmFramer {
 
     ghost frames_of = { tm_frames };
 
-    ghost waits = { λ framer p rest. TmWaits framer p rest };
+    ghost waits = { TmWaits };
 
     #[inline(always)]
     fn next_frame<'a, 'p: 'a>(&'a mut self, chunk: &mut &'p [u8]) -> Option<&'a [u8]> {

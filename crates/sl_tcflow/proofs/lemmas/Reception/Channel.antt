@@ -2,6 +2,7 @@
 use Rattle.std.proofs.Common.{◌≡◌, ◌≢◌, ◌⊎◌, ℕ, ◌+◌, ◌/◌, ◌%◌, ◌<◌, ◌≤◌, Bool, if◌then◌else◌, cond, List, [], ◌∷◌, ◌++◌, length, map, Option, None, Some, inl, inr, sym, ◌∙◌, ap, arith, append-nil, length-append, length-drop, ne_eqb, eq-eqb}
 use Rattle.std.specs.List.{flat_map}
 use Rattle.std.proofs.lemmas.Bool.Decides.{eqb_tells}
+use Rattle.std.proofs.lemmas.List.Elements.{filter-append}
 use Rattle.sl_cop.specs.declared.verdict.Verdict.{Verdict}
 use Rattle.sl_packet.specs.Packets.{packets_of}
 use Rattle.sl_packet.proofs.CountLemmas.{split_count, packets_within}
@@ -15,7 +16,6 @@ use Rattle.sl_tcflow.specs.Reception.{packets_ended, packets_of_segments, segmen
 use Rattle.sl_tcflow.specs.ReceptionParameters.{ReceptionParameters, is_plain}
 use Rattle.sl_tcflow.specs.Recording.{channel_at, packets_of_channel}
 use Rattle.sl_tcflow.specs.Series.{flags_of, header_at, segment_data, segment_in, segments_on}
-use Rattle.sl_tcflow.proofs.lemmas.Reception.Farm.{other_channel}
 use Rattle.sl_tcflow.proofs.lemmas.Reception.Ended.{ended_next}
 use Rattle.sl_tcflow.proofs.lemmas.Series.OneMore.{incomplete_next, packets_next}
 use Rattle.sl_tcflow.proofs.lemmas.Series.Segment.{octets_of_unit}
@@ -105,7 +105,7 @@ module _ (r : ReceptionParameters) (views : List TcView) (next : TcView) where
 
   -- a frame adds nothing to the segments of other channels than its own
   segments_other : (vc map_id : ℕ) → channel_at vc map_id ≢ unit_channel r next → segments_of r vc map_id after ≡ segments_of r vc map_id views
-  segments_other vc map_id other = grind (arith, eqb_tells, segments_next, on_none, append-nil, other_channel)
+  segments_other vc map_id other = grind (arith, eqb_tells, segments_next, on_none, append-nil, filter-append)
 
   -- a frame without an accepted unit adds nothing to the segments of its own channel
   own_none : units ≡ [] → segments_of r next.vc (unit_map r next) after ≡ own

@@ -15,14 +15,6 @@ use Rattle.sl_tcflow.specs.Receiver.{ForIncomplete, ForProcessed, HasProcessed, 
 use Rattle.sl_tcflow.specs.ReceptionParameters.{ReceptionParameters, is_plain, initial_vr}
 use Rattle.sl_tcflow.specs.SeriesStore.{IncompleteSeries}
 
--- ---- one of the channels
-
-pub same_channel : (vc : ℕ) (views : List TcView) (next : TcView) → next.vc ≡ vc → views_on vc (views ++ next ∷ []) ≡ views_on vc views ++ next ∷ []
-same_channel vc views next same = grind (arith, filter-append, eqb_tells)
-
-pub other_channel : (vc : ℕ) (views : List TcView) (next : TcView) → (next.vc ≡ vc → ⊥) → views_on vc (views ++ next ∷ []) ≡ views_on vc views
-other_channel vc views next other = grind (arith, filter-append, eqb_tells, append-nil)
-
 -- ---- FARM-1 of a channel
 
 pub farm_after-push : (w vr : ℕ) (channel : List TcView) (next : TcView)
@@ -36,7 +28,7 @@ farm_with r vc channel = record { window = r.window; state = farm_after r.window
 -- FARM-1 of a virtual channel after one more frame of this channel
 pub farm_next : (r : ReceptionParameters) (views : List TcView) (next : TcView)
     → (farm_of r next.vc (views ++ next ∷ [])).state ≡ (farm_step r.window (farm_of r next.vc views).state (event_of next.content)).1
-farm_next r views next = grind (arith, same_channel, farm_after-push)
+farm_next r views next = grind (arith, filter-append, eqb_tells, farm_after-push)
 
 -- ---- all channels
 
@@ -53,7 +45,7 @@ module _ (r : ReceptionParameters) (farms : List FarmView) (views : List TcView)
       → farm.window ≡ (slice_index_or farms at d).window
       → farm.state ≡ (farm_step (slice_index_or farms at d).window (slice_index_or farms at d).state (event_of next.content)).1
       → HaveStepped r (set farms at farm) (views ++ next ∷ [])
-  stepped_more s fits same window state = grind (arith, get_or_default, same_farm, farm_next, length-set, eqb_tells, get_or-set_same, get_or-set_other, other_channel)
+  stepped_more s fits same window state = grind (arith, get_or_default, same_farm, farm_next, length-set, eqb_tells, get_or-set_same, get_or-set_other, filter-append, append-nil)
 
 pub processed_none : (r : ReceptionParameters) (farms : List FarmView) (incomplete : IncompleteSeries) → HaveStepped r farms [] → incomplete.list ≡ []
     → HasProcessed r (record { farms = farms; plain = r.plain; series = incomplete; has_failed = false }) []

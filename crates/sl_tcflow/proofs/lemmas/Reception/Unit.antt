@@ -21,7 +21,6 @@ use Rattle.sl_tcflow.specs.Segment.{SegmentView, accepted_segment, carried_segme
 use Rattle.sl_tcflow.specs.Series.{header_at, segment_in, segments_on}
 use Rattle.sl_tcflow.specs.SeriesStore.{at, IsPlaced}
 use Rattle.sl_tcflow.proofs.lemmas.Reception.Ended.{ended_next}
-use Rattle.sl_tcflow.proofs.lemmas.Reception.Farm.{same_channel, other_channel}
 use Rattle.sl_tcflow.proofs.lemmas.Series.OneMore.{incomplete_next}
 
 -- ---- accepted units
@@ -97,11 +96,11 @@ module _ (r : ReceptionParameters) (views : List TcView) (next : TcView) (plain 
 
 pub segments_next : (r : ReceptionParameters) (map_id : ℕ) (views : List TcView) (next : TcView)
     → segments_of r next.vc map_id (views ++ next ∷ []) ≡ segments_of r next.vc map_id views ++ segments_on map_id (segment_by r views next)
-segments_next r map_id views next = grind (arith, same_channel, units_from, map-append, filter-append)
+segments_next r map_id views next = grind (arith, eqb_tells, units_from, map-append, filter-append)
 
 segments_other : (r : ReceptionParameters) (vc map_id : ℕ) (views : List TcView) (next : TcView) → (next.vc ≡ vc → ⊥)
     → segments_of r vc map_id (views ++ next ∷ []) ≡ segments_of r vc map_id views
-segments_other r vc map_id views next other = grind (arith, other_channel)
+segments_other r vc map_id views next other = grind (arith, eqb_tells, filter-append, append-nil)
 
 -- the unit is among the segments of its own MAP alone
 on_map : (map_id : ℕ) (unit : List ℕ) → (header_at unit).map ≡ map_id → segments_on map_id (unit ∷ []) ≡ unit ∷ []

@@ -4,7 +4,7 @@ use Rattle.std.specs.List.{AllByRecursion, range_with_len, slice_index_or}
 use Rattle.std.proofs.lemmas.Bool.Decides.{leb_tells}
 use Rattle.std.proofs.lemmas.List.{get_or-drop, get_or-take, get_or_past, map-id, take_all}
 use Rattle.sl_fields.specs.SegmentHeader.{SegmentFields}
-use Rattle.sl_packet.specs.Packet.{IsPacket}
+use Rattle.sl_packet.specs.Packet.{IsPacket, longest_packet}
 use Rattle.sl_tcframe.specs.AdFrame.{plain_room_of}
 use Rattle.sl_tcframe.specs.TcFrame.{TcFormat}
 use Rattle.sl_tcflow.specs.Fits.{FitsOn}
@@ -38,23 +38,19 @@ others_empty format lists vc fits map_id some =
 
 -- ---- whole segments
 
--- the room of the longest packet
-abbrev most : ℕ
-most = 65542
-
-one_part : (packet : List ℕ) → IsPacket packet → segment_count most packet ≡ 1
+one_part : (packet : List ℕ) → IsPacket packet → segment_count longest_packet packet ≡ 1
 one_part packet is = let size = packet_size packet is in omega (arith, size.0, size.1)
 
 -- a packet that fits is one segment with no segmentation
-whole_part : (packet : List ℕ) → IsPacket packet → segments_of_packet most 0 packet ≡ (record { flags = 3; map = 0 }, packet) ∷ []
+whole_part : (packet : List ℕ) → IsPacket packet → segments_of_packet longest_packet 0 packet ≡ (record { flags = 3; map = 0 }, packet) ∷ []
 whole_part packet is =
     let one = one_part packet is in
-    ap (λ n. map (part_at most 0 packet) (range_with_len 0 n)) one
-    ∙ ap (λ n. (let h : SegmentFields = record { flags = flags_at n 0; map = 0 } in h, octets_at most packet 0) ∷ []) one
-    ∙ ap (λ (octets : List ℕ). (let h : SegmentFields = record { flags = 3; map = 0 } in h, octets) ∷ []) (take_all most packet (packet_size packet is).1)
+    ap (λ n. map (part_at longest_packet 0 packet) (range_with_len 0 n)) one
+    ∙ ap (λ n. (let h : SegmentFields = record { flags = flags_at n 0; map = 0 } in h, octets_at longest_packet packet 0) ∷ []) one
+    ∙ ap (λ (octets : List ℕ). (let h : SegmentFields = record { flags = 3; map = 0 } in h, octets) ∷ []) (take_all longest_packet packet (packet_size packet is).1)
 
 whole_parts : (packets : List (List ℕ)) → AllByRecursion IsPacket packets
-    → map whole_segment packets ≡ map unit_made (flat_map (segments_of_packet most 0) packets)
+    → map whole_segment packets ≡ map unit_made (flat_map (segments_of_packet longest_packet 0) packets)
 whole_parts [] each = refl
 whole_parts (packet ∷ packets) each = grind (arith, whole_part, whole_parts packets each.1)
 
@@ -71,11 +67,11 @@ module _ (format : TcFormat) (lists : List (List (List ℕ))) (vc room : ℕ) (s
       → packets_of_segments (segments_on map_id (map whole_segment (packets 0))) ≡ packets map_id
   whole_back zero fits on each =
       ap (λ l. packets_of_segments (segments_on 0 l)) (whole_parts (packets 0) (each_on 0 each))
-      ∙ ap packets_of_segments (on_all most 0 (flat_map (segments_of_packet most 0) (packets 0)) (packets_parts most 0 (omega arith) (packets 0)))
-      ∙ packets_back most 0 0 (packets 0) (omega arith) (omega arith) (each_on 0 each)
+      ∙ ap packets_of_segments (on_all longest_packet 0 (flat_map (segments_of_packet longest_packet 0) (packets 0)) (packets_parts longest_packet 0 (omega arith) (packets 0)))
+      ∙ packets_back longest_packet 0 0 (packets 0) (omega arith) (omega arith) (each_on 0 each)
   whole_back (suc map_id) fits on each =
       ap (λ l. packets_of_segments (segments_on (suc map_id) l)) (whole_parts (packets 0) (each_on 0 each))
-      ∙ ap packets_of_segments (on_none most (suc map_id) (λ m. m ≡ 0) (λ m is e. absurd (omega (arith, is, e))) (flat_map (segments_of_packet most 0) (packets 0)) (packets_parts most 0 (omega arith) (packets 0)))
+      ∙ ap packets_of_segments (on_none longest_packet (suc map_id) (λ m. m ≡ 0) (λ m is e. absurd (omega (arith, is, e))) (flat_map (segments_of_packet longest_packet 0) (packets 0)) (packets_parts longest_packet 0 (omega arith) (packets 0)))
       ∙ sym (others_empty format lists vc on (suc map_id) (omega arith))
 
   pub back_on : (b : Bool) (map_id : ℕ) → map_id < 64 → (b ≡ true → FitsOn format lists vc) → AllByRecursion (AllByRecursion IsPacket) (own lists vc)

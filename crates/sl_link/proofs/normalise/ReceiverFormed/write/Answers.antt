@@ -1,6 +1,7 @@
 use Rattle.std.proofs.Common.{◌≡◌, ◌≢◌, ◌∙◌, List, [], ℕ, arith, length, subst, sym}
 use Rattle.std.proofs.lemmas.Result.{MatchResult-weaker, on_ok_weaker}
 use Rattle.std.proofs.lemmas.List.{take_all}
+use Rattle.sl_packet.specs.Delivered.{channel_count}
 use Rattle.sl_tcflow.specs.Fits.{FitsTc}
 use Rattle.sl_tcflow.proofs.lemmas.Form.Left.{none_at_all}
 use Rattle.sl_tcflow.proofs.lemmas.Reception.PlainRecording.{recorded_lists_fit}
@@ -16,8 +17,8 @@ use Rattle.sl_link.proofs.lemmas.Normalise.Form.{tc_form_delivers, tc_form_is}
 use Rattle.sl_link.proofs.normalise.ReceiverFormed.write.Goals as goal
 
 -- each list is of a channel
-all_of_channels : (p : Parameters) (lists : List (List (List ℕ))) → length lists ≡ 4096 → lists ≡ channel_lists (tc_kind p) lists
-all_of_channels p lists size = sym (take_all 4096 lists (omega (arith, size)))
+all_of_channels : (p : Parameters) (lists : List (List (List ℕ))) → length lists ≡ channel_count → lists ≡ channel_lists (tc_kind p) lists
+all_of_channels p lists size = sym (take_all channel_count lists (omega (arith, size)))
 
 pub new-form-requires-clause-fits : goal.new-form-requires-clause-fits
 new-form-requires-clause-fits g c =

@@ -54,9 +54,9 @@ const LISTINGS: [Listing; 13] = [
         "show",
         LINK,
         "--plain 4,6",
-        &[PLAIN],
+        &[PLAIN_BD],
         0,
-        "0 frame vc 5 ad 0 segment middle map 16 octets 9 accept clcw 01140001\n",
+        "0 frame vc 5 bd segment middle map 16 octets 9 accept clcw 01140200\n",
     ),
     (
         "check",

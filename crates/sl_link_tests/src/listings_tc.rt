@@ -1,8 +1,8 @@
 //! The listings of the anomalies of TC recordings, and of their packets.
 use super::support::engines::ALL;
 use super::support::recordings::{
-    DIVIDED, FIRST_OF_3, IN_WINDOW, LAST_OF_3, LOCKED_OUT, MIDDLE_OF_3, MIXED, SECOND, SKIPPED,
-    TC_TEN_LISTED, THIRD, UNLOCK_WITH_FECF, WHOLE, WITH_IDLE, too_long,
+    DIVIDED, FIRST_OF_3, IN_WINDOW, LAST_OF_3, MIDDLE_OF_3, MIXED, SECOND, TC_TEN_LISTED, THIRD,
+    UNLOCK_WITH_FECF, WHOLE, WITH_IDLE, too_long,
 };
 use super::support::rows::{Stop, holds, passes};
 use super::support::run::{Outcome, lists, writes};
@@ -20,7 +20,7 @@ const WITH_FECF: &str = "sllink check tc --scid 1 --tm-length 32 --tc-length 16 
 const PACKETS: &str = "sllink packets tc --scid 1 --tm-length 32 --tc-length 16";
 
 // Recordings, statuses and the listings of their anomalies.
-const CHECKED: [(&[&str], u8, &str); 11] = [
+const CHECKED: [(&[&str], u8, &str); 9] = [
     (&[], 0, "frames 0 skipped 0 packets 0 idle 0 anomalies 0\n"),
     (
         &[WHOLE],
@@ -40,12 +40,6 @@ const CHECKED: [(&[&str], u8, &str); 11] = [
         "0 early vc 0 ad 1\n32 late vc 0 ad 0\n48 early vc 0 ad 2\n\
         frames 5 skipped 0 packets 2 idle 0 anomalies 3\n",
     ),
-    // Commands, and a unit of type BD in lockout.
-    (
-        &LOCKED_OUT,
-        1,
-        "0 outside vc 0 ad 250\nframes 4 skipped 0 packets 1 idle 0 anomalies 1\n",
-    ),
     (
         &MIXED,
         1,
@@ -56,13 +50,6 @@ const CHECKED: [(&[&str], u8, &str); 11] = [
         &DIVIDED,
         0,
         "frames 3 skipped 0 packets 1 idle 0 anomalies 0\n",
-    ),
-    (
-        &SKIPPED,
-        1,
-        "0 skip spacecraft\n7 skip version\n14 skip long\n\
-        31 skip kind\n38 skip empty\n43 skip command\n\
-        frames 6 skipped 6 packets 0 idle 0 anomalies 6\n",
     ),
     // A series without octets is incomplete, and dropped; and octets are left after a packet.
     (
@@ -93,7 +80,7 @@ const CHECKED: [(&[&str], u8, &str); 11] = [
 ];
 
 // Other command lines, recordings, statuses and listings.
-const LISTINGS: [(&str, &[&str], u8, &str); 7] = [
+const LISTINGS: [(&str, &[&str], u8, &str); 6] = [
     (
         FROM_255,
         &DIVIDED,
@@ -117,13 +104,6 @@ const LISTINGS: [(&str, &[&str], u8, &str); 7] = [
     // The packets of recordings.
     (PACKETS, &[], 0, ""),
     (PACKETS, &[WHOLE], 0, TC_TEN_LISTED),
-    (
-        PACKETS,
-        &MIXED,
-        0,
-        "vc 0 map 1 apid 1 type 1 secondary 0 flags 3 count 0 octets 10 1001c0000003aabbccdd\n\
-        vc 0 map 2 apid 2 type 1 secondary 0 flags 3 count 1 octets 7 1002c0010000ee\n",
-    ),
     // A unit that isn't accepted, and a packet in three segments.
     (
         PACKETS,

@@ -90,7 +90,7 @@ const CHECKED: [(&[&str], &str); 16] = [
 ];
 
 // Recordings, and the listings of their packets.
-const LISTED: [(&[&str], &str); 4] = [
+const LISTED: [(&[&str], &str); 3] = [
     (&[], ""),
     (&[FIRST, TEN_FILLED], TM_TEN_LISTED),
     (
@@ -98,13 +98,6 @@ const LISTED: [(&[&str], &str); 4] = [
         "vc 0 apid 2 type 0 secondary 0 flags 3 count 5 octets 23 \
         0002c00500101111111111111111111111111111111111\n\
         vc 0 apid 3 type 0 secondary 0 flags 3 count 0 octets 10 0003c000000301020304\n\
-        vc 0 apid 1 type 0 secondary 0 flags 3 count 0 octets 10 0001c0000003aabbccdd\n",
-    ),
-    // Without the frame in the middle, the packet that runs through it is gone and no other.
-    (
-        &WITH_GAP,
-        "vc 0 apid 2 type 0 secondary 0 flags 3 count 5 octets 23 \
-        0002c00500101111111111111111111111111111111111\n\
         vc 0 apid 1 type 0 secondary 0 flags 3 count 0 octets 10 0001c0000003aabbccdd\n",
     ),
 ];

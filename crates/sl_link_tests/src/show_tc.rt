@@ -19,7 +19,7 @@ const WINDOW_OF_2: &str = "sllink show tc --scid 1 --tm-length 32 --tc-length 16
 
 const ACCEPTED: &str = "0 frame vc 0 ad 0 segment whole map 0 octets 10 accept clcw 01000001\n";
 
-const LISTINGS: [(&str, &[&str], &str); 16] = [
+const LISTINGS: [(&str, &[&str], &str); 15] = [
     (SHOW, &[], ""),
     (SHOW, &[WHOLE], ACCEPTED),
     (
@@ -42,12 +42,6 @@ const LISTINGS: [(&str, &[&str], &str); 16] = [
         SHOW,
         &[WHOLE, BAD_LENGTH],
         "0 frame vc 0 ad 0 segment whole map 0 octets 10 accept clcw 01000001\n16 rest 7\n",
-    ),
-    // What comes after a bad length is no frame.
-    (
-        SHOW,
-        &[WHOLE, "0001000200", WHOLE],
-        "0 frame vc 0 ad 0 segment whole map 0 octets 10 accept clcw 01000001\n16 rest 21\n",
     ),
     // A frame that isn't whole, and a header that isn't, after which the length could still be bad.
     (SHOW, &["0001000f00c01001c0000003aabbcc"], "0 rest 15\n"),

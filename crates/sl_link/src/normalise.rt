@@ -2,7 +2,7 @@
 ghost use Rattle.std.specs.Prelude.{◌≡◌, ◌≢◌, [], ℕ, List, IfOk, IfErr, OnOk};
 ghost use Rattle.sl_tcframe.specs.TcDelimited.{tc_frames_of};
 ghost use Rattle.sl_tmframe.specs.TmDelimited.{tm_frames_of};
-ghost use Rattle.sl_link.specs.Kind.Delivery.{AreDelivered, AreStored, MayRefuseStoreMemory, counts_in, recorded_packets};
+ghost use Rattle.sl_link.specs.Kind.Delivery.{AreDelivered, AreStored, MayRefuseStoreMemory, counts_in, packets_by_channel};
 ghost use Rattle.sl_link.specs.Kind.Tc.{MayRefuseStoreMemoryTc, tc_counts, tc_packets};
 ghost use Rattle.sl_link.specs.Kind.Tm.{MayRefuseStoreMemoryTm, tm_counts, tm_packets};
 ghost use Rattle.sl_link.specs.Link.Managed.{tc_format};
@@ -144,7 +144,7 @@ trait Formed: Delivery {
         ensures written { OnOk result (WritesText W.contents writer.old writer.new
             (form_of managed.now (channel_lists (Self.kind managed.now) delivered.now.lists))) }
         // Not about what this call does: the normal form delivers these packets again.
-        ensures delivers { recorded_packets (Self.kind managed.now)
+        ensures delivers { packets_by_channel (Self.kind managed.now)
             (form_of managed.now (channel_lists (Self.kind managed.now) delivered.now.lists))
             ≡ channel_lists (Self.kind managed.now) delivered.now.lists }
         // Nothing is written where memory was refused, and it is refused only where there are
@@ -212,7 +212,7 @@ fn normalise<D: Formed, F: Framer, R: Read, W: Write>(
         (listing_counts (counts_in (D.kind managed.now)) (D.kind managed.now).frames_of)
         managed.now.max_octets) }
     ensures packets { OnOk result (KeepsPackets R.remaining W.contents reader.old reader.new
-        writer.old writer.new (recorded_packets (D.kind managed.now))) }
+        writer.old writer.new (packets_by_channel (D.kind managed.now))) }
     ensures fault { IfErr result (Stops R.remaining W.contents reader.old reader.new
         writer.old writer.new (form_text (D.kind managed.now) (D.form_of managed.now))
         managed.now.max_octets chunk_size) }

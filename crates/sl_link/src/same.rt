@@ -3,7 +3,7 @@ ghost use Rattle.std.specs.Prelude.{◌≡◌, ◌⊎◌, ◌↔◌, ◌≤◌, 
 ghost use Rattle.sl_tcframe.specs.TcDelimited.{tc_frames_of};
 ghost use Rattle.sl_tmframe.specs.TmDelimited.{tm_frames_of};
 ghost use Rattle.sl_link.specs.Io.Streams.{ReadsAll, StopsReading};
-ghost use Rattle.sl_link.specs.Kind.Delivery.{MayRefuseStoreMemory, recorded_packets};
+ghost use Rattle.sl_link.specs.Kind.Delivery.{MayRefuseStoreMemory, packets_by_channel};
 ghost use Rattle.sl_link.specs.Kind.Tc.{MayRefuseStoreMemoryTc, tc_packets};
 ghost use Rattle.sl_link.specs.Kind.Tm.{MayRefuseStoreMemoryTm, tm_packets};
 ghost use Rattle.sl_link.specs.Link.Managed.{tc_format};
@@ -119,7 +119,7 @@ fn same_packets<D: Delivery, F: Framer + Drop, A: Read, B: Read>(
     requires same { (frame : List ℕ) → F.is_frame managed.now frame → D.is_frame managed.now frame }
     requires frames { F.frames_of managed.now ≡ (D.kind managed.now).frames_of }
     ensures same { IfOk result (ComparesPackets A.remaining B.remaining one.old one.new other.old
-        other.new (recorded_packets (D.kind managed.now)) managed.now.max_octets) }
+        other.new (packets_by_channel (D.kind managed.now)) managed.now.max_octets) }
     ensures fault { IfErr result (λ fault. (StopsReading A.remaining one.old one.new
         managed.now.max_octets chunk_size fault × (other.new ≡ other.old))
         ⊎ (((octets : List ℕ) × ReadsAll A.remaining one.old one.new managed.now.max_octets octets)
@@ -195,8 +195,8 @@ fn same_packets_in_memory<D: Delivery, F: Framer + Drop>(
     requires none { F.waits framers.0 managed.now [] × F.waits framers.1 managed.now [] }
     requires same { (frame : List ℕ) → F.is_frame managed.now frame → D.is_frame managed.now frame }
     requires frames { F.frames_of managed.now ≡ (D.kind managed.now).frames_of }
-    ensures same { IfOk result (λ same. IsTrue same ↔ (recorded_packets (D.kind managed.now) one.now
-        ≡ recorded_packets (D.kind managed.now) other.now)) }
+    ensures same { IfOk result (λ same. IsTrue same ↔ (packets_by_channel (D.kind managed.now) one.now
+        ≡ packets_by_channel (D.kind managed.now) other.now)) }
     ensures within { OnOk result (max (length one.now) (length other.now)
         ≤ managed.now.max_octets) }
     ensures fault { IfErr result (StopsInMemory managed.now.max_octets

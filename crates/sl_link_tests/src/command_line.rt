@@ -1,7 +1,7 @@
 //! Command lines: what they ask for, which are refused, help and the version.
 use super::support::recordings::{FIRST, TEN_FILLED, TM_TEN_LISTED, TM_TEN_SHOWN, WITH_FECF};
 use super::support::rows::{Stop, holds, passes};
-use super::support::run::{Outcome, lists, normalises};
+use super::support::run::{ProgramRun, lists, normalises};
 use std::alloc::{AllocError, Global};
 
 // Options come in any order, before the kind or after it, their number joined to them or not. The
@@ -200,7 +200,7 @@ fn command_lines_are_read(rt: HostRuntime) {
 #[test]
 fn wrong_command_lines_are_refused(rt: HostRuntime) -> Result<(), Stop> {
     for line in &WRONG {
-        let outcome = Outcome::of(rt.alloc(), line, &[])?;
+        let outcome = ProgramRun::of(rt.alloc(), line, &[])?;
         let is_refused = outcome.status == 2 && outcome.output.is_empty();
         holds(
             &rt,
@@ -225,7 +225,7 @@ fn long_line(alloc: Global, line: &str) -> Result<String, AllocError> {
 fn many_words_are_read(rt: HostRuntime) -> Result<(), Stop> {
     for (line, status) in &LONG {
         let long = long_line(rt.alloc(), line)?;
-        let outcome = Outcome::of(rt.alloc(), long.as_str(), &[])?;
+        let outcome = ProgramRun::of(rt.alloc(), long.as_str(), &[])?;
         holds(&rt, line, outcome.status == *status);
     }
     Ok(())
@@ -235,7 +235,7 @@ fn many_words_are_read(rt: HostRuntime) -> Result<(), Stop> {
 #[test]
 fn the_version_is_printed(rt: HostRuntime) -> Result<(), Stop> {
     for line in &VERSION_LINES {
-        let outcome = Outcome::unread(rt.alloc(), line)?;
+        let outcome = ProgramRun::unread(rt.alloc(), line)?;
         holds(
             &rt,
             line,
@@ -248,7 +248,7 @@ fn the_version_is_printed(rt: HostRuntime) -> Result<(), Stop> {
 #[test]
 fn help_says_what_a_run_takes_and_gives(rt: HostRuntime) -> Result<(), Stop> {
     for (line, parts) in &HELP {
-        let outcome = Outcome::of(rt.alloc(), line, &[])?;
+        let outcome = ProgramRun::of(rt.alloc(), line, &[])?;
         holds(&rt, line, outcome.says(0, ""));
         for part in *parts {
             holds(&rt, &(line, part), outcome.text().contains(*part));
@@ -294,10 +294,10 @@ fn names_options(said: &str) -> bool {
 
 #[test]
 fn help_names_each_verb_and_option(rt: HostRuntime) -> Result<(), Stop> {
-    let help = Outcome::of(rt.alloc(), "sllink --help", &[])?;
+    let help = ProgramRun::of(rt.alloc(), "sllink --help", &[])?;
     holds(&rt, &"verbs", names_verbs(help.text()));
     for line in &WITH_OPTIONS {
-        let help = Outcome::of(rt.alloc(), line, &[])?;
+        let help = ProgramRun::of(rt.alloc(), line, &[])?;
         holds(&rt, line, names_options(help.text()));
     }
     Ok(())

@@ -5,7 +5,7 @@ use super::support::recordings::{
     UNLOCK_WITH_FECF, WHOLE, WITH_IDLE, too_long,
 };
 use super::support::rows::{Stop, holds, passes};
-use super::support::run::{Outcome, lists, writes};
+use super::support::run::{ProgramRun, lists, writes};
 use std::alloc::{AllocError, Global};
 use std::process::Abort;
 
@@ -168,7 +168,7 @@ fn are_open(rt: &impl Abort, alloc: Global, listing: &str) -> bool {
 #[test]
 fn series_of_all_channels_are_incomplete(rt: HostRuntime) -> Result<(), Stop> {
     let recording = all_series(rt.alloc())?;
-    let outcome = Outcome::of(rt.alloc(), CHECK, &recording)?;
+    let outcome = ProgramRun::of(rt.alloc(), CHECK, &recording)?;
     let are_all = are_open(&rt, rt.alloc(), outcome.text());
     holds(&rt, &OF_ALL_SERIES, outcome.says(1, "") && are_all);
     Ok(())

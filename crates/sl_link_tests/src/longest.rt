@@ -2,7 +2,7 @@
 use super::support::engines::ALL;
 use super::support::recordings::{front_of_longest, longest};
 use super::support::rows::{Stop, holds};
-use super::support::run::{Outcome, writes};
+use super::support::run::{ProgramRun, writes};
 
 const NORMALISE: &str = "sllink normalise tm --scid 1 --tm-length 32";
 
@@ -35,7 +35,7 @@ fn a_longest_packet_of_tm(rt: HostRuntime) -> Result<(), Stop> {
     let recording = longest(alloc)?;
     let is_form = writes(alloc, NORMALISE, &recording, ALL, (0, &recording))?;
     holds(&rt, &NORMALISE, recording.len() == 80_704 && is_form);
-    let outcome = Outcome::of(alloc, PACKETS, &recording)?;
+    let outcome = ProgramRun::of(alloc, PACKETS, &recording)?;
     let data = outcome.text().strip_prefix(START).unwrap_or("");
     holds(&rt, &PACKETS, outcome.says(0, "") && are_digits(data));
     let is_whole = writes(alloc, CHECK, &recording, ALL, (0, WHOLE))?;

@@ -4,7 +4,7 @@ use super::support::recordings::{
     octets,
 };
 use super::support::rows::{Stop, holds, passes};
-use super::support::run::{Outcome, ended, ends, lists, normalises, refuses};
+use super::support::run::{ProgramRun, ended, ends, lists, normalises, refuses};
 use super::support::streams::{FullAfter, Interrupted, Unflushed, Unwritable};
 use std::alloc::Global;
 use std::io::Write;
@@ -171,7 +171,7 @@ fn recordings_are_listed_and_normalised(rt: HostRuntime) {
 
 // Whether a recording has this status where a hundred octets are read at most.
 fn has_status(alloc: Global, recording: &[u8], status: u8, said: &str) -> Result<bool, Stop> {
-    let outcome = Outcome::of(alloc, LIMITED, recording)?;
+    let outcome = ProgramRun::of(alloc, LIMITED, recording)?;
     Ok(outcome.says(status, said) && outcome.output.is_empty() == (status != 0))
 }
 
@@ -189,10 +189,10 @@ fn the_limit_is_kept(rt: HostRuntime) -> Result<(), Stop> {
 #[test]
 fn faults_of_reading_are_named(rt: HostRuntime) -> Result<(), Stop> {
     for line in &UNREAD {
-        let outcome = Outcome::unread(rt.alloc(), line)?;
+        let outcome = ProgramRun::unread(rt.alloc(), line)?;
         holds(&rt, line, outcome.says(3, "sllink: read\n"));
     }
-    let outcome = Outcome::of(rt.alloc(), UP_TO_ONE, RECORDING)?;
+    let outcome = ProgramRun::of(rt.alloc(), UP_TO_ONE, RECORDING)?;
     holds(&rt, &UP_TO_ONE, outcome.says(3, "sllink: too long\n"));
     Ok(())
 }

@@ -5,7 +5,7 @@ use super::support::recordings::{
     UNLOCK_WITH_FECF, WHOLE, octets,
 };
 use super::support::rows::{Stop, holds, passes};
-use super::support::run::{Outcome, lists};
+use super::support::run::{ProgramRun, lists};
 use sl_link::LinkFault;
 use std::alloc::{AllocError, Global};
 
@@ -176,7 +176,7 @@ fn is_limited(
     most: usize,
     status: u8,
 ) -> Result<bool, AllocError> {
-    let outcome = Outcome::with(alloc, line, recording, most)?;
+    let outcome = ProgramRun::with(alloc, line, recording, most)?;
     if status == 0 {
         return Ok(outcome.says(0, ""));
     }

@@ -123,7 +123,7 @@ impl PacketSink for Delivered {
     ghost failures = { λ delivered. delivered.failures };
 
     fn packet(&mut self, channel: u16, p: &[u8]) -> Result<(), SinkFault> {
-        let added = add(self.alloc, &mut self.lists, usize::from(channel), p);
+        let added = add_to_list(self.alloc, &mut self.lists, usize::from(channel), p);
         if added.is_err() {
             self.failures = self.failures.saturating_add(1);
             return Err(SinkFault::Memory);
@@ -141,7 +141,7 @@ fn are_same(packets: &[Vec<u8>], others: &[Vec<u8>]) -> bool
 
 // Adds a packet to the list of a channel. Where memory is refused, each channel's packets stay as
 // they were, but empty lists may have been added for channels without a list.
-fn add(
+fn add_to_list(
     alloc: Global,
     lists: &mut Vec<Vec<Vec<u8>>>,
     channel: usize,

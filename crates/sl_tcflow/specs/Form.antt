@@ -32,7 +32,7 @@ piece_room = 131091
 
 -- A piece of one octet or more is made: it goes from the front of `left`, the octets that are still
 -- to come, to the end of `made`. Afterwards these are `left'` and `made'`.
-pub record AddsPiece (left made left' made' : List ℕ) : Type 0 where
+pub record AddsPieceTc (left made left' made' : List ℕ) : Type 0 where
   pub piece : List ℕ
   pub some : 0 < length piece
   pub most : length piece ≤ piece_room

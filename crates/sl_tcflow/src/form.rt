@@ -8,7 +8,7 @@ ghost use Rattle.sl_packet.specs.Delivered.{IsDeliverable, channel_count, list_a
 ghost use Rattle.sl_tcframe.specs.AdFrame.{plain_room_of};
 ghost use Rattle.sl_tcframe.specs.TcFrame.{TcFormat};
 ghost use Rattle.sl_tcflow.specs.Fits.{FitsTc};
-ghost use Rattle.sl_tcflow.specs.Form.{IsPlace, form_left, ns_after, piece_of, AddsPiece};
+ghost use Rattle.sl_tcflow.specs.Form.{IsPlace, form_left, ns_after, piece_of, AddsPieceTc};
 ghost use Rattle.sl_tcflow.specs.Form.{piece_room};
 ghost use Rattle.sl_tcflow.specs.FormDelivery.{AreDeliverable};
 ghost use Rattle.sl_tcflow.specs.Recording.{tc_lists};
@@ -129,7 +129,7 @@ impl<'d> TcForm<'d> {
         // The piece is the front of the octets that were still to come, and the octets after it are
         // still to come. `false` means that no octet was still to come.
         ensures piece { IfOk result (λ some. IsTrue some
-            → AddsPiece self.old form.old.items self.new form.new.items) }
+            → AddsPieceTc self.old form.old.items self.new form.new.items) }
         ensures end { IfOk result (λ some. IsFalse some
             → (self.old ≡ []) × (self.new ≡ []) × (form.new.items ≡ form.old.items)) }
 

@@ -119,7 +119,7 @@ IsStuck f = front_of f.format f.rest ≡ BelowLeast
 
 -- The state after a call with this chunk and this answer. A framer that is stuck stays as it was,
 -- which follows from `after` and the clauses of `next` and `rest`, and spares callers a proof.
-pub record HasTaken (old : TcFraming) (chunk : List ℕ) (answer : Option (Bor (List ℕ))) (new : TcFraming) : Type 0 where
+pub record HasTakenTc (old : TcFraming) (chunk : List ℕ) (answer : Option (Bor (List ℕ))) (new : TcFraming) : Type 0 where
   pub after : new ≡ after_call old chunk (lent_octets answer)
   pub stuck : IsStuck old → new ≡ old
 

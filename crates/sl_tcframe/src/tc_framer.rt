@@ -37,7 +37,7 @@ impl Model for TcFramer {
 }
 
 impl TcFramer {
-    ghost use Rattle.sl_tcframe.specs.TcFraming.{IsStuck, HasTaken, StaysStuck, at_start};
+    ghost use Rattle.sl_tcframe.specs.TcFraming.{IsStuck, HasTakenTc, StaysStuck, at_start};
     ghost use Rattle.sl_tcframe.specs.TcFraming.{YieldsFrame, YieldsNone};
     ghost use Rattle.sl_tcframe.specs.contracts.tc_framer.TcFramer.{the_row};
 
@@ -91,7 +91,7 @@ impl TcFramer {
     pub fn next(&mut self, piece: &mut &[u8]) -> Option<&[u8]>
         // The state of the framer once the returned frame is no longer borrowed: `Rests R s P`, of
         // std's `specs/Io/BufRead.antt`, says that P holds then of what `s` points to.
-        ensures* taken { sem 𝓛 (Rests the_row self.entry (HasTaken self.old piece.old.now result)) }
+        ensures* taken { sem 𝓛 (Rests the_row self.entry (HasTakenTc self.old piece.old.now result)) }
 
         // A frame has the octets that were taken after the last frame, and then octets from the
         // front of the piece.
@@ -104,7 +104,7 @@ impl TcFramer {
         ensures none { IfNone result (YieldsNone self.old piece.old.now piece.new.now) }
 
         // A framer that is stuck takes no octet and returns no frame. `cut` and `stuck`, and also
-        // `stuck` of `HasTaken`, follow from the other clauses, from those of `rest` and from the
+        // `stuck` of `HasTakenTc`, follow from the other clauses, from those of `rest` and from the
         // law `tc_fronts_tell_frames`; they spare callers a proof.
         ensures stuck { StaysStuck self.old piece.old.now result piece.new.now }
     {
@@ -126,7 +126,7 @@ impl TcFramer {
     /// copied.
     #[inline]
     pub fn next_from<'a, 'p: 'a>(&'a mut self, piece: &mut &'p [u8]) -> Option<&'a [u8]>
-        ensures* taken { sem 𝓛 (Rests the_row self.entry (HasTaken self.old piece.old.now result)) }
+        ensures* taken { sem 𝓛 (Rests the_row self.entry (HasTakenTc self.old piece.old.now result)) }
         ensures frame { IfSome result (λ frame.
             YieldsFrame self.old piece.old.now frame.now piece.new.now) }
         ensures cut { IfSome result (λ frame. is_cut self.old.format frame.now ≡ true) }
@@ -151,7 +151,7 @@ impl TcFramer {
     // to be rare.
     #[cold]
     fn next_across(&mut self, piece: &mut &[u8]) -> Option<&[u8]>
-        ensures* taken { sem 𝓛 (Rests the_row self.entry (HasTaken self.old piece.old.now result)) }
+        ensures* taken { sem 𝓛 (Rests the_row self.entry (HasTakenTc self.old piece.old.now result)) }
         ensures frame { IfSome result (λ frame.
             YieldsFrame self.old piece.old.now frame.now piece.new.now) }
         ensures cut { IfSome result (λ frame. is_cut self.old.format frame.now ≡ true) }

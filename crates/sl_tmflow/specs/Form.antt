@@ -45,7 +45,7 @@ LacksRoom s form = IsReserved s → vec_capacity form < vec_len form + piece_roo
 
 -- A piece of one octet or more is made: it goes from the front of `left`, the octets that are still
 -- to come, to the end of `made`. Afterwards these are `left'` and `made'`.
-pub record AddsPiece (left made left' made' : List ℕ) : Type 0 where
+pub record AddsPieceTm (left made left' made' : List ℕ) : Type 0 where
   pub piece : List ℕ
   pub some : 0 < length piece
   pub front : left ≡ piece ++ left'

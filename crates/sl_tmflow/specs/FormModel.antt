@@ -10,14 +10,14 @@ use Rattle.sl_tmflow.specs.FormDelivery.{IsFormat}
 use Rattle.sl_tmflow.specs.declared.form.TmForm.TheInside.{Inside}
 
 -- the octets that are still to come
-abbrev pub octets_left : Inside → List ℕ
-octets_left f =
+abbrev pub octets_to_come : Inside → List ℕ
+octets_to_come f =
     form_left f.shape f.heading f.start f.octets.items (map vec_items f.packets.now)
     (drop (f.heading.vc + 1) (take 8 f.delivered.now.lists))
 
 -- what a `TmForm` stands for
 abbrev pub form_state : Inside → FormState
-form_state f = record { left = octets_left f; octets_room = vec_capacity f.octets }
+form_state f = record { left = octets_to_come f; octets_room = vec_capacity f.octets }
 
 -- The format, the spacecraft and the virtual channel are in range. The octets that are kept don't
 -- fill a data field, the offset `start` lies in a data field, and the packets aren't idle.

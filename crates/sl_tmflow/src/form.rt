@@ -6,7 +6,7 @@ ghost use Rattle.std.specs.Vec.{vec_len, vec_capacity};
 ghost use Rattle.sl_packet.specs.Packet.{longest_packet};
 ghost use Rattle.sl_tmframe.specs.PacketFrame.{field_room_of};
 ghost use Rattle.sl_tmframe.specs.TmFrame.{longest_field};
-ghost use Rattle.sl_tmflow.specs.Form.{AddsPiece, IsReserved, LacksRoom, form_of, piece_room};
+ghost use Rattle.sl_tmflow.specs.Form.{AddsPieceTm, IsReserved, LacksRoom, form_of, piece_room};
 ghost use Rattle.sl_tmflow.specs.Form.{octets_room, heading_after, filled_up, frames_of};
 ghost use Rattle.sl_tmflow.specs.Form.{frames_len, fields_in, beyond_fields};
 ghost use Rattle.sl_tmflow.specs.NormalForm.{fill_of, filling};
@@ -157,7 +157,7 @@ impl<'d> TmForm<'d> {
         // The piece is the front of the octets that were still to come, and the octets after it are
         // still to come. `false` means that no octet was still to come.
         ensures piece { IfOk result (λ some. IsTrue some
-            → AddsPiece self.old.left form.old.items self.new.left form.new.items) }
+            → AddsPieceTm self.old.left form.old.items self.new.left form.new.items) }
         ensures end { IfOk result (λ some. IsFalse some
             → (self.old.left ≡ []) × (self.new.left ≡ []) × (form.new.items ≡ form.old.items)) }
 

@@ -55,8 +55,8 @@ lent_octets None = None
 lent_octets (Some octets) = Some octets.now
 
 -- this is the state after a call with this piece and this answer
-abbrev pub HasTaken : TmFraming → List ℕ → Option (Bor (List ℕ)) → TmFraming → Type 0
-HasTaken old piece answer new = new ≡ after_call old piece (lent_octets answer)
+abbrev pub HasTakenTm : TmFraming → List ℕ → Option (Bor (List ℕ)) → TmFraming → Type 0
+HasTakenTm old piece answer new = new ≡ after_call old piece (lent_octets answer)
 
 -- ---- calls with chunks, one after another
 

@@ -34,7 +34,7 @@ impl Model for TmFramer {
 }
 
 impl TmFramer {
-    ghost use Rattle.sl_tmframe.specs.TmFraming.{HasTaken, UsesUpChunk, YieldsFrame, at_start};
+    ghost use Rattle.sl_tmframe.specs.TmFraming.{HasTakenTm, UsesUpChunk, YieldsFrame, at_start};
     ghost use Rattle.sl_tmframe.specs.contracts.tm_framer.TmFramer.{the_row};
 
     /// A framer for frames of this format that has taken no octet yet.
@@ -67,7 +67,7 @@ impl TmFramer {
         // The state once the returned frame isn't borrowed any more: no octet is held after a
         // frame. Without a frame the piece was added to the octets that were held. `Rests R s P`,
         // of std's `specs/Io/BufRead.antt`, says that P holds then of what `s` points to.
-        ensures* taken { sem 𝓛 (Rests the_row self.entry (HasTaken self.old piece.old.now result)) }
+        ensures* taken { sem 𝓛 (Rests the_row self.entry (HasTakenTm self.old piece.old.now result)) }
 
         // A frame has the octets that were taken after the last frame, and then octets from the
         // front of the piece. The other octets of the piece are left.
@@ -98,7 +98,7 @@ impl TmFramer {
     /// copied. The program calls this one; docs/DECISIONS.md says why both are public.
     #[inline]
     pub fn next_from<'a, 'p: 'a>(&'a mut self, piece: &mut &'p [u8]) -> Option<&'a [u8]>
-        ensures* taken { sem 𝓛 (Rests the_row self.entry (HasTaken self.old piece.old.now result)) }
+        ensures* taken { sem 𝓛 (Rests the_row self.entry (HasTakenTm self.old piece.old.now result)) }
         ensures frame { IfSome result (λ frame.
             YieldsFrame self.old piece.old.now frame.now piece.new.now) }
         ensures used_up { IfNone result (UsesUpChunk self.old piece.old.now piece.new.now) }
@@ -122,7 +122,7 @@ impl TmFramer {
     // before a frame is complete.
     #[cold]
     fn next_across(&mut self, piece: &mut &[u8]) -> Option<&[u8]>
-        ensures* taken { sem 𝓛 (Rests the_row self.entry (HasTaken self.old piece.old.now result)) }
+        ensures* taken { sem 𝓛 (Rests the_row self.entry (HasTakenTm self.old piece.old.now result)) }
         ensures frame { IfSome result (λ frame.
             YieldsFrame self.old piece.old.now frame.now piece.new.now) }
         ensures used_up { IfNone result (UsesUpChunk self.old piece.old.now piece.new.now) }

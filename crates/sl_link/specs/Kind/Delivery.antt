@@ -42,8 +42,8 @@ abbrev pub delivered_packets : Kind → List (List ℕ) → List (List (List ℕ
 delivered_packets k frames = map (λ channel. without_idle (k.packets frames channel)) k.channels
 
 -- the packets that a recording delivers on each channel, idle packets left out
-abbrev pub recorded_packets : Kind → List ℕ → List (List (List ℕ))
-recorded_packets k recording = delivered_packets k (k.frames_of recording)
+abbrev pub packets_by_channel : Kind → List ℕ → List (List (List ℕ))
+packets_by_channel k recording = delivered_packets k (k.frames_of recording)
 
 -- the number of packets that frames deliver, idle packets left out
 abbrev pub number_of_packets : Kind → List (List ℕ) → ℕ

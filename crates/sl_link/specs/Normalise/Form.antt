@@ -6,13 +6,13 @@ use Rattle.sl_link.specs.declared.link.counted.Counted.{Counted}
 use Rattle.sl_link.specs.declared.link.fault.LinkFault.{LinkFault}
 use Rattle.sl_link.specs.declared.link.fault.LinkFault.TheVariants.{Memory}
 use Rattle.sl_link.specs.Io.Streams.{ReadsAll}
-use Rattle.sl_link.specs.Kind.Delivery.{AreDelivered, AreStored, Kind, counts_in, recorded_packets}
+use Rattle.sl_link.specs.Kind.Delivery.{AreDelivered, AreStored, Kind, counts_in, packets_by_channel}
 use Rattle.sl_link.specs.Link.Totals.{Counts}
 use Rattle.sl_link.specs.Tally.{listing_counts}
 
 -- the normal form of a recording's packets
 abbrev pub form_text : Kind → (List (List (List ℕ)) → List ℕ) → List ℕ → List ℕ
-form_text k form_of recording = form_of (recorded_packets k recording)
+form_text k form_of recording = form_of (packets_by_channel k recording)
 
 -- ---- what is stored
 

@@ -6,12 +6,12 @@ use std::alloc::{AllocError, Global};
 pub fn octets(alloc: Global, parts: &[&str]) -> Result<Vec<u8>, Stop> {
     let mut octets = Vec::new(alloc);
     for part in parts {
-        add(alloc, &mut octets, part)?;
+        add_octets(alloc, &mut octets, part)?;
     }
     Ok(octets)
 }
 
-fn add(alloc: Global, octets: &mut Vec<u8>, part: &str) -> Result<(), Stop> {
+fn add_octets(alloc: Global, octets: &mut Vec<u8>, part: &str) -> Result<(), Stop> {
     let part = hex::decode(alloc, part)?;
     Ok(octets.extend_from_slice(part.as_slice())?)
 }

@@ -22,16 +22,16 @@ pub fn text(octets: &[u8]) -> &str {
 
 /// What a run answers, and what it says.
 #[derive(Drop)]
-pub struct Outcome {
+pub struct ProgramRun {
     pub status: u8,
     pub output: Vec<u8>,
     pub errors: Vec<u8>,
 }
 
-impl Outcome {
+impl ProgramRun {
     /// Of a run over a recording.
-    pub fn of(alloc: Global, line: &str, recording: &[u8]) -> Result<Outcome, AllocError> {
-        Outcome::with(alloc, line, recording, ALL)
+    pub fn of(alloc: Global, line: &str, recording: &[u8]) -> Result<ProgramRun, AllocError> {
+        ProgramRun::with(alloc, line, recording, ALL)
     }
 
     /// The same with streams that give and take at most this number of octets at a time.
@@ -40,12 +40,12 @@ impl Outcome {
         line: &str,
         recording: &[u8],
         most: usize,
-    ) -> Result<Outcome, AllocError> {
+    ) -> Result<ProgramRun, AllocError> {
         let mut errors = Vec::new(alloc);
         let reader = InPieces(recording, most);
         let writer = InPieces(Vec::new(alloc), most);
         let (status, _, output) = ended(alloc, line, reader, writer, &mut errors)?;
-        Ok(Outcome {
+        Ok(ProgramRun {
             status,
             output: output.0,
             errors,
@@ -53,10 +53,10 @@ impl Outcome {
     }
 
     /// Of a run that reads nothing: a read would be a fault.
-    pub fn unread(alloc: Global, line: &str) -> Result<Outcome, AllocError> {
+    pub fn unread(alloc: Global, line: &str) -> Result<ProgramRun, AllocError> {
         let mut errors = Vec::new(alloc);
         let (status, _, output) = ended(alloc, line, Unreadable, Vec::new(alloc), &mut errors)?;
-        Ok(Outcome {
+        Ok(ProgramRun {
             status,
             output,
             errors,
@@ -118,7 +118,7 @@ pub fn writes(
     most: usize,
     (status, output): (u8, &[u8]),
 ) -> Result<bool, AllocError> {
-    let outcome = Outcome::with(alloc, line, recording, most)?;
+    let outcome = ProgramRun::with(alloc, line, recording, most)?;
     Ok(outcome.says(status, "") && outcome.output.as_slice() == output)
 }
 

@@ -57,7 +57,7 @@ pub fn farms(vr: u8) -> Result<Farms, Stop> {
 }
 
 /// What a receiver answers to a frame of spacecraft 1.
-pub fn take<S: PacketSink>(
+pub fn hand_in<S: PacketSink>(
     receiver: &mut Receiver,
     octets: &[u8],
     sink: &mut S,
@@ -73,7 +73,7 @@ pub fn step_of<S: PacketSink>(
     octets: &[u8],
     sink: &mut S,
 ) -> Result<TcStep, Stop> {
-    Ok(take(receiver, octets, sink)??)
+    Ok(hand_in(receiver, octets, sink)??)
 }
 
 /// The verdict on a frame, and the packets and the idle ones that end with its unit.

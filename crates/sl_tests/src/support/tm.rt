@@ -35,7 +35,7 @@ pub fn extractor(alloc: Global) -> Extractor {
 }
 
 /// What an extractor answers to a frame of 32 octets of spacecraft 1.
-pub fn take<S: PacketSink>(
+pub fn hand_in<S: PacketSink>(
     extractor: &mut Extractor,
     octets: &[u8; 32],
     sink: &mut S,
@@ -51,7 +51,7 @@ pub fn step_of<S: PacketSink>(
     octets: &[u8; 32],
     sink: &mut S,
 ) -> Result<TmStep, Stop> {
-    Ok(take(extractor, octets, sink)??)
+    Ok(hand_in(extractor, octets, sink)??)
 }
 
 /// The packets, and the idle ones, that end in a frame.
@@ -70,7 +70,7 @@ pub fn fault<S: PacketSink>(
     octets: &[u8; 32],
     sink: &mut S,
 ) -> Result<Option<FlowFault>, Stop> {
-    Ok(take(extractor, octets, sink)?.err())
+    Ok(hand_in(extractor, octets, sink)?.err())
 }
 
 /// The octets that are held for a virtual channel.

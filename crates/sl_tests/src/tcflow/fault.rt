@@ -2,7 +2,7 @@
 use crate::support::recordings::TC_FRAME;
 use crate::support::rows::{Stop, holds, passes};
 use crate::support::sinks::Keeps;
-use crate::support::tc::{clcw, receiver, take};
+use crate::support::tc::{clcw, hand_in, receiver};
 use sl_packet::{FlowFault, SinkFault};
 use sl_tcflow::Receiver;
 
@@ -11,7 +11,7 @@ static FAULTS: [FlowFault; 2] = [FlowFault::Sink(SinkFault::Refused), FlowFault:
 
 // Whether the frame fails with this fault, and its packet is offered only once.
 fn fails(receiver: &mut Receiver, sink: &mut Keeps, wanted: FlowFault) -> Result<bool, Stop> {
-    let fault = take(receiver, &TC_FRAME, sink)?.err();
+    let fault = hand_in(receiver, &TC_FRAME, sink)?.err();
     Ok(fault == Some(wanted) && sink.refused == 1)
 }
 

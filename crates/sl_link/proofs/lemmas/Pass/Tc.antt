@@ -6,7 +6,7 @@ use Rattle.std.proofs.lemmas.List.Elements.{All-append, All-nil}
 use Rattle.sl_fields.specs.Field.{IsOctets}
 use Rattle.sl_tcframe.specs.TcDelimited.{front_len}
 use Rattle.sl_tcframe.specs.TcFrame.{is_cut}
-use Rattle.sl_tcframe.specs.TcFraming.{HasTaken, IsRest, IsStuck, TcFraming, WholeFrame, YieldsFrame, YieldsNone, after_call}
+use Rattle.sl_tcframe.specs.TcFraming.{HasTakenTc, IsRest, IsStuck, TcFraming, WholeFrame, YieldsFrame, YieldsNone, after_call}
 use Rattle.sl_tcframe.proofs.ChunkLemmas.{below_again, less_than_whole, none_below, pause_parts, pause_rest, rest_is_no_frame}
 use Rattle.sl_tcframe.proofs.DelimitedLemmas.{frames_of-none}
 use Rattle.sl_tcframe.proofs.FramingLemmas.{below_is_not_whole, below_stays, fits_rest, front_tells}
@@ -81,6 +81,6 @@ module _ (f : TcFraming) (p : Parameters) (rest chunk left : List ℕ) (w : TcWa
   waits_stuck : IsStuck f → TcWaits f p (rest ++ chunk)
   waits_stuck stuck = record { format = w.format; octets = all; taken = w.taken; more = w.more ++ chunk; rest_is = rest_with; later = inr stuck }
 
-  pub waits_next : (new : TcFraming) (answer : Option (Bor (List ℕ))) → HasTaken f chunk answer new → IfNone answer (YieldsNone f chunk left)
+  pub waits_next : (new : TcFraming) (answer : Option (Bor (List ℕ))) → HasTakenTc f chunk answer new → IfNone answer (YieldsNone f chunk left)
       → WaitsAfter TcWaits new p rest chunk answer
   waits_next new answer taken y = grind (arith, waits_none, waits_nothing, waits_stuck, taken.after, taken.stuck, w.format)

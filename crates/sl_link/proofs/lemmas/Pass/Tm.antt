@@ -2,7 +2,7 @@
 use Rattle.std.proofs.Common.{◌≡◌, ℕ, ◌<◌, List, [], ◌++◌, length, Option, sym, ◌∙◌, ap, arith, length-append}
 use Rattle.std.specs.Prelude.{IfNone}
 use Rattle.std.specs.Borrow.{Bor}
-use Rattle.sl_tmframe.specs.TmFraming.{HasTaken, TmFraming, UsesUpChunk, YieldsFrame}
+use Rattle.sl_tmframe.specs.TmFraming.{HasTakenTm, TmFraming, UsesUpChunk, YieldsFrame}
 use Rattle.sl_tmframe.proofs.DelimitedLemmas.{frames_of-short}
 use Rattle.sl_link.specs.Link.Managed.{Parameters}
 use Rattle.sl_link.specs.Pass.{CutsFrame, WaitsAfter}
@@ -22,6 +22,6 @@ module _ (f : TmFraming) (p : Parameters) (rest chunk left : List ℕ) (w : TmWa
   pub cuts_none : UsesUpChunk f chunk left → tm_frames p (rest ++ chunk) ≡ []
   cuts_none u = frames_of-short p.tm_length (rest ++ chunk) (few u)
 
-  pub waits_next : (new : TmFraming) (answer : Option (Bor (List ℕ))) → HasTaken f chunk answer new → IfNone answer (UsesUpChunk f chunk left)
+  pub waits_next : (new : TmFraming) (answer : Option (Bor (List ℕ))) → HasTakenTm f chunk answer new → IfNone answer (UsesUpChunk f chunk left)
       → WaitsAfter TmWaits new p rest chunk answer
   waits_next new answer taken u = grind (arith, few, w.len, w.rest_is, w.short)

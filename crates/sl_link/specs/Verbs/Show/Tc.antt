@@ -63,13 +63,13 @@ tc_frame_text plain farms (Ok view) = tc_view_text (has_vc plain view.vc) (farms
 tc_frame_text plain farms (Err reason) = codes " skip " ++ tc_skip_word reason
 
 -- FARM-1 of a virtual channel after frames
-abbrev pub farm_view : Parameters → List (List ℕ) → ℕ → FarmView
-farm_view p before vc = farm_of (reception_of p) vc (views_of (tc_format p) p.spacecraft before)
+abbrev pub farm_before : Parameters → List (List ℕ) → ℕ → FarmView
+farm_before p before vc = farm_of (reception_of p) vc (views_of (tc_format p) p.spacecraft before)
 
 -- the line of a frame that comes after these frames
 abbrev pub show_tc_line : Parameters → List (List ℕ) → List ℕ → List ℕ
 show_tc_line p before frame =
-    line_at (length (concat before)) (tc_frame_text p.plain (farm_view p before)
+    line_at (length (concat before)) (tc_frame_text p.plain (farm_before p before)
     (tc_frame (tc_format p) p.spacecraft frame))
 
 -- whether a frame is skipped

@@ -13,7 +13,7 @@ use Rattle.sl_packet.specs.Delivered.{PacketLists, channel_count, list_at}
 use Rattle.sl_tcframe.specs.AdFrame.{segment_room_of, ad_frame}
 use Rattle.sl_tcframe.specs.TcFrame.{TcFormat}
 use Rattle.sl_tcframe.specs.VcSet.{has_vc}
-use Rattle.sl_tcflow.specs.Form.{IsPlace, vcs_left, form_left, maps_left, ns_after, piece_of, AddsPiece}
+use Rattle.sl_tcflow.specs.Form.{IsPlace, vcs_left, form_left, maps_left, ns_after, piece_of, AddsPieceTc}
 use Rattle.sl_tcflow.specs.TcNormalForm.{units_of_packet, units_of_maps, frames_of_units, tc_normal_form_of}
 use Rattle.sl_tcflow.proofs.lemmas.Series.Part.{some_parts}
 use Rattle.sl_tcflow.proofs.lemmas.Form.Pushed.{frames_from_same, frames_from-append}
@@ -233,10 +233,10 @@ pub no_packet : (d : PacketLists) (channel framed : ℕ) → IsPlace d channel f
 no_packet d channel framed place past = grind (arith, leb_tells)
 
 -- the octets that are made and those to come are one form
-pub piece_moved : (left made left' made' form : List ℕ) → made ++ left ≡ form → AddsPiece left made left' made' → made' ++ left' ≡ form
+pub piece_moved : (left made left' made' form : List ℕ) → made ++ left ≡ form → AddsPieceTc left made left' made' → made' ++ left' ≡ form
 piece_moved left made left' made' form all adds = grind (arith, append_assoc)
 
-pub left_shorter : (left made left' made' : List ℕ) → AddsPiece left made left' made' → length left' < length left
+pub left_shorter : (left made left' made' : List ℕ) → AddsPieceTc left made left' made' → length left' < length left
 left_shorter left made left' made' adds = grind (arith, length-append)
 
 pub none_after : (made left : List ℕ) → made ++ left ≡ [] → left ≡ []

@@ -58,17 +58,17 @@ maps_on false room lists few = maps_rise room 0 lists (omega arith)
 -- ---- N(S)
 
 -- each frame is of type AD and has the N(S) of its place
-ns_of : (vc ns : ℕ) (units : List (List ℕ)) (before later : List TcView) (view : TcView) → views_from vc ns units ≡ before ++ view ∷ later
+unit_has_ns : (vc ns : ℕ) (units : List (List ℕ)) (before later : List TcView) (view : TcView) → views_from vc ns units ≡ before ++ view ∷ later
     → (unit : List ℕ) × (view.content ≡ Ad ((ns + length before) % 256) unit)
-ns_of vc ns [] [] later view is = cc
-ns_of vc ns [] (other ∷ before) later view is = cc
-ns_of vc ns (unit ∷ units) [] later view is =
+unit_has_ns vc ns [] [] later view is = cc
+unit_has_ns vc ns [] (other ∷ before) later view is = cc
+unit_has_ns vc ns (unit ∷ units) [] later view is =
     let here : TcView = record { vc = vc; content = Ad (ns % 256) unit } in
     let same : view ≡ here = cc in
     (unit, ap (λ (v : TcView). v.content) same ∙ ap (λ n. Ad (n % 256) unit) (omega arith))
-ns_of vc ns (unit ∷ units) (other ∷ before) later view is =
+unit_has_ns vc ns (unit ∷ units) (other ∷ before) later view is =
     let rest : views_from vc (ns + 1) units ≡ before ++ view ∷ later = cc in
-    let (own, content) = ns_of vc (ns + 1) units before later view rest in
+    let (own, content) = unit_has_ns vc (ns + 1) units before later view rest in
     (own, content ∙ ap (λ n. Ad (n % 256) own) (omega arith))
 
 -- ---- all
@@ -102,5 +102,5 @@ maps_never_fall format spacecraft starts plain lists can vc inside =
 
 pub ns_counts : NsCounts
 ns_counts format spacecraft starts plain lists can vc inside before later view is =
-    ns_of vc (slice_index_or starts vc 0) (units format spacecraft starts plain lists can vc) before later view
+    unit_has_ns vc (slice_index_or starts vc 0) (units format spacecraft starts plain lists can vc) before later view
     (sym (own_views format spacecraft starts plain lists can vc inside) ∙ is)

@@ -17,7 +17,7 @@ use Rattle.sl_tmframe.specs.PacketFrame.{field_room_of}
 use Rattle.sl_tmframe.specs.TmFrame.{TmFormat}
 use Rattle.sl_tmflow.specs.Form.{beyond_fields, channel_left, field_frames, fields_in, filled_up, form_left, form_of, frames_of, heading_after, lists_left, next_channel, start_after}
 use Rattle.sl_tmflow.specs.NormalForm.{channel_frame, channel_frames, fill_of, filling, frames_from_channel, with_filling}
-use Rattle.sl_tmflow.specs.FormModel.{IsTmForm, octets_left}
+use Rattle.sl_tmflow.specs.FormModel.{IsTmForm, octets_to_come}
 use Rattle.sl_tmflow.specs.declared.form.Heading.{Heading}
 use Rattle.sl_tmflow.specs.declared.form.TmForm.TheInside.{Inside}
 use Rattle.sl_tmflow.proofs.lemmas.Form.Delivery.{short_room, wide_room}
@@ -264,7 +264,7 @@ none_at_all format spacecraft lists none =
     get_or-take 8 lists channel [] inside ∙ none channel inside)
 
 -- octets are still to come where some are kept or packets are left
-pub octets_come : (f : Inside) → IsTmForm f → 0 < length f.octets.items + length (map vec_items f.packets.now) → octets_left f ≢ []
+pub octets_come : (f : Inside) → IsTmForm f → 0 < length f.octets.items + length (map vec_items f.packets.now) → octets_to_come f ≢ []
 unfolding form_left
 octets_come f is some none =
     let wide = wide_room f.shape is.format in

@@ -17,7 +17,7 @@ use Rattle.sl_tcflow.specs.AcceptedUnit as accepted
 use Rattle.sl_tcflow.specs.ReceptionParameters.{ReceptionParameters}
 use Rattle.sl_tcflow.proofs.lemmas.Reception.Channel.{small_map}
 use Rattle.sl_link.specs.declared.verbs.packets.printer.ChannelKind.{ChannelKind}
-use Rattle.sl_link.specs.Kind.Delivery.{AreDelivered, Kind, delivered_packets, recorded_packets}
+use Rattle.sl_link.specs.Kind.Delivery.{AreDelivered, Kind, delivered_packets, packets_by_channel}
 use Rattle.sl_link.specs.Verbs.Packets.Listed.{ListedPacket, ListsPackets, line_of, packets_listed_on, TmPacketsAreListed, TcPacketsAreListed}
 use Rattle.sl_link.specs.Verbs.Packets.Printed.{ArePrinted, channel_name, lines_on}
 use Rattle.sl_link.specs.Verbs.Listing.{lines_from, listing_text}
@@ -101,7 +101,7 @@ module _ (k : Kind) where
 
     -- So, of a whole recording, each list has its channel's packets.
     pub packets_are_listed : (kind : ChannelKind) (lines : List (List ℕ) → List ℕ → List ℕ) → ArePrinted k kind lines → (recording : List ℕ)
-        → ListsPackets (channel_name kind) (recorded_packets k recording) (listing_text k.frames_of (packets_listing k lines) recording)
+        → ListsPackets (channel_name kind) (packets_by_channel k recording) (listing_text k.frames_of (packets_listing k lines) recording)
     packets_are_listed kind lines printed recording =
         let frames = k.frames_of recording in
         record { listed = listed_from [] frames; lines = append-nil (lines_from lines [] frames) ∙ lines_are kind lines printed [] frames; each = each_listed frames }

@@ -1,11 +1,11 @@
 use Rattle.std.proofs.Common.{◌≡◌, ◌+◌, ◌-◌, ◌*◌, ◌^◌, ◌≤◌, length}
 use Rattle.std.specs.Vec.{vec_capacity}
-use Rattle.sl_tmflow.specs.FormModel.{IsTmForm, octets_left}
+use Rattle.sl_tmflow.specs.FormModel.{IsTmForm, octets_to_come}
 use Rattle.sl_tmflow.proofs.form.TmForm.next.Given as goal
 
 abbrev pub invariant-loop-packet : goal.invariant-loop-packet
 invariant-loop-packet l = record {
-  left : octets_left l.self-inside ≡ l.fn.self.left;
+  left : octets_to_come l.self-inside ≡ l.fn.self.left;
   form : l.form.items ≡ l.fn.form.items;
   keeps : l.fn.self.octets_room ≤ vec_capacity l.self-inside.octets;
   capacity : vec_capacity l.fn.form ≤ vec_capacity l.form;

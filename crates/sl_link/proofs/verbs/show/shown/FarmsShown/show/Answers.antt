@@ -4,7 +4,7 @@ use Rattle.sl_tcflow.specs.AcceptedUnit.{views_of}
 use Rattle.sl_tcflow.specs.Farms.{HaveStepped}
 use Rattle.std.specs.List.{concat}
 use Rattle.sl_link.specs.Link.Managed.{Parameters, reception_of, tc_format}
-use Rattle.sl_link.specs.Verbs.Show.Tc.{farm_view, tc_frame_text}
+use Rattle.sl_link.specs.Verbs.Show.Tc.{farm_before, tc_frame_text}
 use Rattle.sl_link.proofs.lemmas.Io.Line.{line_after}
 use Rattle.sl_link.proofs.lemmas.Kind.Delivery.{views_next}
 use Rattle.sl_link.proofs.verbs.show.shown.FarmsShown.show.Goals as goal
@@ -15,7 +15,7 @@ returns-clause-line c = λ before start h offset.
     let read : c.read-read.result ≡ tc_frame (tc_format p) p.spacecraft c.args.frame.now = search rules in
     line_after start _ (length (concat before)) offset
     (rw read at (c.tc_frame_line.ensures.line (reception_of p) (views_of (tc_format p) p.spacecraft before) h
-    ∙ ap (λ (q : Parameters). c.args.lines.now ++ (tc_frame_text q.plain (farm_view p before) c.read-read.result ++ codes "\n")) c.managed.view_is))
+    ∙ ap (λ (q : Parameters). c.args.lines.now ++ (tc_frame_text q.plain (farm_before p before) c.read-read.result ++ codes "\n")) c.managed.view_is))
 
 pub returns-clause-shown : goal.returns-clause-shown
 returns-clause-shown c = λ before h.

@@ -6,7 +6,7 @@ use Rattle.sl_packet.specs.KeptLists.{lists_in, with_empty_lists}
 use Rattle.sl_packet.proofs.PaddedLemmas.{padded_grown, padded_with_packet}
 use Rattle.sl_packet.proofs.KeptLemmas.{packet_added, nothing_added, grown_due, with_packet_due}
 use Rattle.sl_packet.proofs.StoppingLemmas.{on_err}
-use Rattle.sl_packet.proofs.delivered.add.Goals as goal
+use Rattle.sl_packet.proofs.delivered.add_to_list.Goals as goal
 
 pub returns-in_err-grow_to-clause-refused : goal.returns-in_err-grow_to-clause-refused
 returns-in_err-grow_to-clause-refused c =

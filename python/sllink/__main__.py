@@ -13,13 +13,13 @@ import errno
 from typing import List
 
 from . import counts, packets
-from .tool import Refused, about, complain, reason_of, require_name, run, shown
+from .tool import Refused, about, complain, is_option, reason_of, require_name, run, shown
 
 NAME = "python3 -m sllink"
 
 
 def main(words: List[str]) -> int:
-    if len(words) < 2 or words[0] not in ("tm", "tc") or words[1].startswith("--"):
+    if len(words) < 2 or words[0] not in ("tm", "tc") or is_option(words[1]):
         raise Refused(f"usage: {NAME} tm|tc RECORDING --scid N [OPTION..]")
     require_name(words[1])
     try:

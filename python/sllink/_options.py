@@ -87,6 +87,7 @@ def _integer(value: Any, taken: Tuple[int, int]) -> int:
     return number
 
 
+NAMES = {f"--{it.name.replace('_', '-')}" for it in fields(Options)}
 Words = Union[Options, Sequence[str]]
 
 

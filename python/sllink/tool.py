@@ -14,11 +14,11 @@ import subprocess
 import sys
 import time
 from collections import deque
-from typing import Any, Callable, Dict, Iterator, List, NoReturn, Optional, Tuple, Union
+from typing import Any, Callable, Dict, Iterable, Iterator, List, NoReturn, Optional, Tuple, Union
 
 from . import __version__
 from ._fault import SllinkError, shown as shown              # pylint: disable=useless-import-alias
-from ._options import ASKS
+from ._options import ASKS, NAMES
 
 # All that ends a process, but SIGKILL and faults of its own; two of them come of limits on processor time.
 STOPS = signal.valid_signals() - {
@@ -73,6 +73,11 @@ class State:
         if now.st_size != self.size or now.st_mtime_ns != before.st_mtime_ns or now.st_ctime_ns != before.st_ctime_ns \
                 or not os.path.samestat(now, before):
             raise Refused(f"{shown(self.recording)}: has changed while it was read")
+
+
+def is_option(word: str, own: Iterable[str] = ()) -> bool:
+    """Whether a word is an option of the program or of a tool, which may have its value."""
+    return word.partition("=")[0] in {*NAMES, *own}
 
 
 def require_name(word: str) -> None:

@@ -183,6 +183,7 @@ fifo: is no file that can be read more than once
 /dev/null: is no file that can be read more than once
 /proc/version: is no file with a size, but one of the system
 -dash.tm: is no option; a recording of this name is ./-dash.tm
+--dash.tm: is no option; a recording of this name is ./--dash.tm
 END
 }
 

@@ -77,13 +77,14 @@ from .._compare.store import Packets, room
 from .._compare.union import Union, skip
 from .._program import output_of
 from .._questions import QUESTIONS, doubted, unanswered
-from ..tool import Refused, State, about, divided, own_options, require_name, shown
+from ..tool import Refused, State, about, divided, is_option, own_options, require_name, shown
 
 NAME = "sllink-compare"
 USAGE = f"usage: {NAME} tm|tc A B --scid N [OPTION..]; --help says more"
 ALLOWED = [*CHECK_WORDS, *QUESTIONS]
 VALUED = {"--allow": f"words of: {' '.join(ALLOWED)}",
           **dict.fromkeys(["--a-options", "--b-options", "--union"], "a value")}
+FLAGS = "--hex", "--lines"
 LARGE = 256 << 20                                         # octets from which on the lines of packets decide
 
 
@@ -116,7 +117,7 @@ class Words:
             raise Refused(USAGE if len(words) < 3 else f"{words[0]}: is no kind of recording; {USAGE}")
         self.kind, self.recordings = words[0], words[1:3]
         for recording in self.recordings:
-            if recording.startswith("--"):
+            if is_option(recording, [*VALUED, *FLAGS]):
                 raise Refused(f"the recordings come before the options, and one named {recording} is ./{recording}; "
                               f"{USAGE}")
             require_name(recording)
@@ -127,8 +128,8 @@ class Words:
             if word not in ALLOWED:
                 raise Refused(f"--allow: '{word}' is none of: {' '.join(ALLOWED)}")
         self.union = self._output(own["--union"][-1]) if own["--union"] else None
-        self.hex, self.lines = "--hex" in others, "--lines" in others
-        common = [word for word in others if word not in ("--hex", "--lines")]
+        self.hex, self.lines = (flag in others for flag in FLAGS)
+        common = [word for word in others if word not in FLAGS]
         self.options = [[*common, *own_options(name, own[name])] for name in ("--a-options", "--b-options")]
 
     def _output(self, value: str) -> str:

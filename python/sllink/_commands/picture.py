@@ -33,12 +33,12 @@ from typing import List
 
 from .._picture import Picture
 from .._survey import Survey
-from ..tool import Refused, about, require_name
+from ..tool import Refused, about, is_option, require_name
 
 
 def main(words: List[str]) -> int:
     # not by argparse, which is longer: all words after the recording are for sllink
-    if len(words) < 2 or words[0] not in ("tm", "tc") or words[1].startswith("--"):
+    if len(words) < 2 or words[0] not in ("tm", "tc") or is_option(words[1]):
         raise Refused("usage: sllink-picture tm|tc RECORDING --scid N [OPTION..] > PICTURE.svg")
     require_name(words[1])
     with about(words[1]):

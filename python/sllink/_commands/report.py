@@ -38,17 +38,18 @@ from itertools import takewhile
 from typing import List
 
 from .._report import report_of_one, report_of_two
-from ..tool import Refused, divided, own_options, require_file, require_name
+from ..tool import Refused, divided, is_option, own_options, require_file, require_name
 
 OWN = ("--a-options", "--b-options")
 
 
 def main(words: List[str]) -> int:
-    recordings = list(takewhile(lambda word: not word.startswith("--"), words[1:]))
+    recordings = list(takewhile(lambda word: not is_option(word, OWN), words[1:]))
+    for recording in recordings:
+        require_name(recording)
     if not 1 <= len(recordings) <= 2 or words[0] not in ("tm", "tc"):
         raise Refused("usage: sllink-report tm|tc A [B] --scid N [OPTION..] > PAGE.html; --help says more")
     for recording in recordings:
-        require_name(recording)
         require_file(recording)
     options, given = divided(words[1 + len(recordings):], dict.fromkeys(OWN, "options of sllink"))
     own = [own_options(name, given[name]) for name in OWN]

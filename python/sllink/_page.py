@@ -3,7 +3,7 @@
 from html import escape
 from typing import Iterable, Optional, Sequence, Tuple, Union
 
-from ._check_words import MARKS
+from ._check_words import CHECK_WORDS
 from ._picture import STYLE
 
 Value = Union[str, int]
@@ -59,11 +59,11 @@ dl.facts dd{margin-bottom:.375rem}.verdict{font-size:1rem}}
 DARK = "".join(["""
 @media screen and (prefers-color-scheme:dark){.pass text{fill:#e8eaed}.pass .soft{fill:#a3adb8}
 .pass .row{fill:#23282e}.pass .line{stroke:#4b545e}.pass .axis{stroke:#a3adb8}.pass .on-dark{fill:#fff}
-.pass .on-light{fill:#000}.pass .lost{fill:#ff7a6b}
-""", *(f".pass .m-{what}{{fill:{look.dark}}}" for what, look in MARKS.items()), """
-.pass path.m-dropped{fill:none;stroke:#ff7a6b}
-.pass .c-skip{fill:#e05c7a}.pass .c-first,.pass .c-command{fill:#1f7fc4}.pass .c-none{fill:#b5dcf5}
-.pass .rest-back{fill:#14171a}.pass .rest-line{fill:#a3adb8}.pass .f-Lockout{fill:#ff7a6b}}
+.pass .on-light{fill:#000}.pass .lost,.pass .f-Lockout{fill:#ff7a6b}
+""", *(f".pass .{'m' if it.path else 'c'}-{what}{{fill:{it.dark}}}" for what, it in CHECK_WORDS.items() if it.dark),
+     f"""
+.pass path.m-dropped{{fill:none;stroke:{CHECK_WORDS["dropped"].dark}}}.pass .c-none{{fill:#b5dcf5}}
+.pass .c-first,.pass .c-command{{fill:#1f7fc4}}.pass .rest-back{{fill:#14171a}}.pass .rest-line{{fill:#a3adb8}}}}
 """])
 
 

@@ -36,7 +36,7 @@ STYLE = "".join([
     ".pass .axis{stroke:#111}.pass .on-dark{fill:#fff}.pass .on-light{fill:#000}.pass .lost{fill:#d00000}",
     *(f".pass .c-{what}{{fill:{colour}}}" for what, (colour, _) in CELLS.items() if colour),
     *(f".pass .m-{what}{{fill:{look.colour}}}" for what, look in MARKS.items()),
-    ".pass path.m-dropped{fill:none;stroke:#d00000;stroke-width:2}",
+    f".pass path.m-dropped{{fill:none;stroke:{MARKS['dropped'].colour};stroke-width:2}}",
     *(f".pass .f-{flag.split()[0]}{{fill:{colour}}}" for flag, colour in FLAG_COLOURS.items()),
     ".pass .rest-back{fill:#fff}.pass .rest-line{fill:#6b6b6b}",
 ])

@@ -13,7 +13,8 @@ import errno
 from typing import List
 
 from . import counts, packets
-from .tool import Refused, about, complain, is_option, reason_of, require_name, run, shown
+from ._questions import silent_one
+from .tool import Refused, about, complain, is_option, reason_of, require_name, run
 
 NAME = "python3 -m sllink"
 
@@ -32,7 +33,7 @@ def main(words: List[str]) -> int:
     for count in found:
         print(count)
     if not found:
-        complain(NAME, f"{shown(words[1])}: delivers no packet; are the options right? sllink-identify says what it is")
+        complain(NAME, f"{silent_one(words[1])} sllink-identify says what it is")
     return 0 if found else 1
 
 

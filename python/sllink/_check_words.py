@@ -37,8 +37,8 @@ CHECK_WORDS: Dict[str, Word] = {
                     meaning_tc="incomplete series of segments dropped"),
     "opaque": Word(
         "frame whose data field isn't read: secondary header, other data than packets, pointer past the end",
-        "#e69f00", "", "opaque", asks="Many frames are opaque, so their data fields aren't read. Have they a secondary "
-        "header, or other data than packets?"),
+        "#e69f00", "", "opaque", asks="Many frames are opaque, so their data fields aren't read. Do the "
+        "frames have a secondary header, or other data than packets?"),
     "foreign": Word(
         "octets at a packet start that are of another packet version", "#7a3fa0", "#c9a2f0", "another packet version",
         DIAMOND, "Octets at packet starts are of another packet version. Do the frames have an error control field, "

@@ -1,5 +1,5 @@
-"""The questions about the options of a recording, which sllink-compare and a page ask. docs/compare.md has the word of
-each with which --allow answers it."""
+"""The questions about the options of a recording, which sllink-compare, a page and the module's command ask.
+docs/compare.md has the word of each with which --allow answers it."""
 
 from typing import TYPE_CHECKING, Collection, Iterator, List, Sequence, Union
 
@@ -42,8 +42,7 @@ def unanswered(some: Sequence["Read"], allowed: Collection[str]) -> Iterator[str
     if len(silent) == 2:
         yield "neither recording delivers a packet; are the options right?" + _perhaps(silent[0])
     for it in silent:
-        yield (f"{shown(it.recording)}: delivers no packet; are the options right? --allow nothing says so"
-               + _perhaps(it, ";"))
+        yield f"{silent_one(it.recording)} --allow nothing says so" + _perhaps(it, ";")
     for it in some:
         if "most" not in allowed and mostly_skipped(it) and it.packets:
             yield (f"{shown(it.recording)}: {it.skipped} of {it.frames} frames are skipped; are the options right? "
@@ -55,9 +54,19 @@ def _perhaps(it: "Read", before: str = "") -> str:
     return f"{before} sllink-identify says of {shown(it.recording)}: {found}" if found else ""
 
 
+def silent_one(recording: str) -> str:
+    return f"{shown(recording)}: delivers no packet; are the options right?"
+
+
 def doubted(words: Collection[str]) -> List[str]:
     """Those of the words that mostly come of a wrong option."""
     return [word for word, it in CHECK_WORDS.items() if it.mostly and word in words]
+
+
+def at_lines(words: Collection[str], what: str) -> str:
+    """The question at lines of `check` with these words, and after it what each of them asks."""
+    asked = [f" {word}: {it[0].lower()}{it[1:]}" for word in words if (it := CHECK_WORDS[word].asks.partition(". ")[2])]
+    return f"{what}; are the options right?{''.join(asked)}"
 
 
 # On a page.

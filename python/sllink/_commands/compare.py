@@ -76,7 +76,7 @@ from .._compare.difference import Difference, Hunk, Runs
 from .._compare.store import Packets, room
 from .._compare.union import Union, skip
 from .._program import output_of
-from .._questions import QUESTIONS, doubted, unanswered
+from .._questions import QUESTIONS, at_lines, doubted, unanswered
 from ..tool import Refused, State, about, divided, is_option, own_options, require_name, shown
 
 NAME = "sllink-compare"
@@ -165,8 +165,8 @@ class Checked:
 def require_none(doubts: List[str]) -> None:
     """Refuses lines of `check` that aren't allowed."""
     if doubts:
-        raise Refused(f"no packet differs, but check has lines that --allow doesn't name: {','.join(doubts)}; "
-                      "are the options right?")
+        raise Refused(at_lines(doubts, "no packet differs, but check has lines that --allow doesn't name: "
+                               + ",".join(doubts)))
 
 
 def digest_of(it: Checked) -> Tuple[bytes, int]:
@@ -239,7 +239,7 @@ def print_heads(words: Words, doubts: List[str]) -> None:
     a, b = map(shown, words.recordings)
     print(f"different packets: < only in {a}, > only in {b}")
     for word in doubted(doubts):
-        print(f"check has {word}, which mostly comes of a wrong option; are the options right?")
+        print(at_lines([word], f"check has {word}, which mostly comes of a wrong option"))
 
 
 def print_lines(hunk: Hunk, listed: List[Iterator[bytes]]) -> None:

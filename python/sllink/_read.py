@@ -10,7 +10,7 @@ from itertools import chain, zip_longest
 from typing import Any, BinaryIO, ContextManager, Dict, Generator, Iterator, Literal, Optional, Union, overload
 
 from ._compare.difference import Difference
-from ._compare.store import Packets, room
+from ._compare.store import Packets, room, take
 from ._fault import SllinkError
 from ._library import Library, Recording
 from ._options import Words, words_of
@@ -146,7 +146,7 @@ def difference(kind: str, a: Recording, b: Recording, options: Words, b_options:
             sides = [Packets(os.path.join(folder, side)) for side in "ab"]
             for side, recording, of in zip(sides, (a, b), (options, options if b_options is None else b_options)):
                 with output_of("packets", kind, recording, of, program) as listing:
-                    side.take(listing, kind)
+                    take(listing, side)
             yield from Difference(sides, folder).runs()
     except Refused as reason:
         raise OSError(str(reason)) from None

@@ -5,13 +5,12 @@ import os
 from typing import Counter, List, Optional, Sequence, Tuple
 
 from ._check_words import meaning_of
-from ._compare.difference import Key
-from ._compare.store import Packets, room
+from ._compare.store import MOST_APIDS, Key, Packets, room
 from ._page import Table, facts, figure, folded, heading, listing, page, paragraph, verdict
 from ._picture import Picture
 from ._questions import questions
 from ._survey import MOST_LINES, MOST_LOCKOUTS, NOT_READ, Reports, Survey
-from ._tally import MOST_APIDS, MOST_RUNS, Lacks, Tally
+from ._tally import MOST_RUNS, Lacks, Tally
 from ._verdict import listed, lost_frames, missing_counts, number_of, said, said_of_two
 from .tool import State, about, shown
 

@@ -2,17 +2,15 @@
 
 from array import array
 from collections import defaultdict
-from hashlib import blake2b
 from typing import Counter, Dict, List, Optional, Sequence, Set, Tuple
 
-from ._compare.difference import COUNTS, Difference, Key, Runs
-from ._compare.store import FIELDS, MOST_PACKETS, RECORD, Channel, Packets
+from ._compare.difference import Difference, Runs
+from ._compare.store import FIELDS, MOST_APIDS, Channel, Key, Packets, take
 from ._program import output_of
 from ._records import Run
 from .tool import Refused, shown
 
 MOST_RUNS = 200                                           # that are kept of what one recording lacks
-MOST_APIDS = 16384                                        # that are counted each, as many as a downlink can have
 MOST_NAMES = 12                                           # of channels in a sentence
 
 
@@ -44,7 +42,7 @@ class Tally:
         """How many there are of an APID, where that is known."""
         return self.counts[key].packets if key in self.counts else None if self.left else 0
 
-    def _count(self, key: Key, number: int) -> Count:
+    def count_of(self, key: Key, number: int) -> Count:
         """Where a packet of an APID is counted, which has this sequence count."""
         if key in self.counts or len(self.counts) < MOST_APIDS:
             return self.counts.setdefault(key, Count(number))
@@ -55,44 +53,12 @@ class Tally:
         return self.others
 
     def _read(self, recording: str, options: Sequence[str], kept: Optional[Packets]) -> None:
-        known: Dict[bytes, Tuple[Count, int, List[bytes]]] = {}    # by the first words of a line
-        records: Dict[Channel, List[bytes]] = defaultdict(list)
-        pack, number_kept = RECORD.pack, 0
-        with output_of("packets", self.kind, recording, options) as lines:
-            for line in lines:
-                # vc V [map M] apid A type T secondary S flags F count C octets N DIGITS
-                try:
-                    head, tail = line.split(b" count ", 1)
-                    digits, _, octets, packet = tail.split(b" ", 3)
-                    number = int(digits)
-                except ValueError:
-                    raise Refused(f"{shown(recording)}: sllink: what it says of packets is no line of them") from None
-                it = known.get(head)
-                if it is None:
-                    key = key_of(head)
-                    it = self._count(key, number), key[2], records[key[:2]]
-                    if it[0] is not self.others:
-                        if len(known) == MOST_APIDS:
-                            known.clear()
-                        known[head] = it
-                count, apid, some = it
-                count.packets += 1
-                count.octets += int(octets)
-                ahead = (number - count.last - 1) % COUNTS
-                if ahead:
-                    count.jumps += 1
-                    count.missing += ahead if ahead < COUNTS // 2 else 0
-                count.last = number
-                if kept is not None:
-                    some.append(pack(blake2b(packet, digest_size=16).digest(), apid, number))
-                    number_kept += 1
-                    if number_kept == MOST_PACKETS:
-                        kept.put_all(records)
-                        number_kept = 0
+        try:
+            with output_of("packets", self.kind, recording, options) as listing:
+                take(listing, kept, self)
+        except ValueError:
+            raise Refused(f"{shown(recording)}: sllink: what it says of packets is no line of them") from None
         self._next.clear()
-        if kept is not None:
-            kept.put_all(records)
-            kept.files.flush()
 
 
 class Missing:
@@ -159,9 +125,3 @@ class Lacks(Difference):
 def key_of_run(run: Run) -> Key:
     """The channel and the APID of a run."""
     return run.vc, -1 if run.map is None else run.map, run.apid
-
-
-def key_of(head: bytes) -> Key:
-    """The channel and the APID of a packet, by the first words of its line."""
-    words = head.split(b" ", 6)
-    return (int(words[1]), int(words[3]), int(words[5])) if words[2] == b"map" else (int(words[1]), -1, int(words[3]))

@@ -73,7 +73,7 @@ from typing import Iterator, List, Optional, Tuple
 from .. import SllinkError, lines
 from .._check_words import CHECK_WORDS
 from .._compare.difference import Difference, Hunk, Runs
-from .._compare.store import Packets, room
+from .._compare.store import Packets, room, take
 from .._compare.union import Union, skip
 from .._program import output_of
 from .._questions import QUESTIONS, at_lines, doubted, unanswered
@@ -262,7 +262,7 @@ def packets_of(words: Words, checked: Checked, side: int, folder: str) -> Packet
     """The packets of a recording, as many as `check` counts."""
     packets = Packets(os.path.join(folder, "ab"[side]), words.hex or words.union is not None)
     with about(checked.recording), output_of("packets", checked.kind, checked.recording, checked.options) as listing:
-        packets.take(listing, checked.kind)
+        take(listing, packets)
     words.states[side].require_unchanged()
     if packets.number != checked.packets:
         raise Refused(f"{shown(checked.recording)}: check counts packets {checked.packets}, and {packets.number} are "

@@ -6,15 +6,13 @@ from typing import Counter, Deque, Dict, Iterator, List, NamedTuple, OrderedDict
 
 from .._records import Run, run_line
 from .alignment import Members, hunks
-from .store import FAR, FIELDS, RECORD, SIZE, Channel, Packets
+from .store import COUNTS, FAR, FIELDS, RECORD, SIZE, Channel, Packets
 
-COUNTS = 16384                                            # of the packet sequence count
 OPEN_RUNS = 4096                                          # runs that are kept open
 
 Only = Tuple[bytes, bytes]                                # records, and of each whether the other one doesn't list it
 Kept = OrderedDict[bytes, int]
 NOTHING: Tuple[Only, Only] = ((b"", b""), (b"", b""))
-Key = Tuple[int, int, int]                                # virtual channel, MAP (-1 for TM) and APID
 
 
 class Hunk(NamedTuple):

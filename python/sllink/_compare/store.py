@@ -10,13 +10,18 @@ from contextlib import contextmanager
 from functools import partial
 from hashlib import blake2b
 from struct import Struct
-from typing import Callable, Dict, Iterable, Iterator, List, Optional, Tuple, Union
+from typing import TYPE_CHECKING, Callable, Dict, Iterable, Iterator, List, Optional, Tuple
 
 from ..tool import Refused, reason_of, shown
+
+if TYPE_CHECKING:
+    from .._tally import Count, Tally
 
 KEPT = 1 << 20                                            # octets that are kept in memory before they are written
 SPARE = 2 << 20                                           # octets that are given back, with two files, to delete it
 MOST_PACKETS = 10000                                      # whose records are kept in memory
+MOST_APIDS = 16384                                        # that are counted each, as many as a downlink can have
+COUNTS = 16384                                            # of the packet sequence count
 NEAR, FAR = 4096, 65536                                   # packets among which the next one that both have is searched
 
 RECORD = Struct(">16sHH")                                 # a packet: the digest of its octets, APID, sequence count
@@ -25,7 +30,7 @@ SIZE = RECORD.size
 LINK = Struct(">QQ")                                      # before a piece: where the next one begins, its octets
 
 Channel = Tuple[int, int]                                 # virtual channel and MAP (-1 for TM)
-Key = Union[bytes, Tuple[bytes, bytes]]                   # the same, as in a line
+Key = Tuple[int, int, int]                                # the same, and APID
 
 
 @contextmanager
@@ -118,30 +123,6 @@ class Packets:
         self.files, self.number, self.whole = Files(path), 0, whole
         self.channels: Dict[Channel, int] = {}               # how many packets each has
 
-    def take(self, listing: Iterable[bytes], kind: str) -> None:
-        """Takes the lines of `packets`."""
-        at = 3 if kind == "tm" else 5
-        records: Dict[Channel, List[bytes]] = defaultdict(list)
-        known: Dict[Key, Tuple[List[bytes], str]] = {}       # of a channel: records, and the name of its lines
-        number, pack, add = 0, RECORD.pack, self.files.add
-        for line in listing:
-            parts = line.split(b" ")
-            key: Key = parts[1] if at == 3 else (parts[1], parts[3])
-            try:
-                some, name = known[key]
-            except KeyError:
-                channel = int(parts[1]), -1 if at == 3 else int(parts[3])
-                some, name = known[key] = records[channel], _name(channel, "lines")
-            some.append(pack(blake2b(parts[-1], digest_size=16).digest(), int(parts[at]), int(parts[at + 8])))
-            number += 1
-            if number >= MOST_PACKETS:
-                self.put_all(records)
-                number = 0
-            if self.whole:
-                add(name, line)
-        self.put_all(records)
-        self.files.flush()
-
     def put_all(self, records: Dict[Channel, List[bytes]]) -> None:
         """Takes records of channels out of their lists."""
         for channel, some in records.items():
@@ -158,6 +139,53 @@ class Packets:
         """The lines of a channel, where they are kept."""
         for piece in self.files.pieces(_name(channel, "lines")):
             yield from piece.splitlines(keepends=True)
+
+
+def take(listing: Iterable[bytes], kept: Optional[Packets], tally: Optional["Tally"] = None) -> None:
+    """Takes the lines of `packets`, to be kept, counted, or both. ValueError: what is said is no line of them."""
+    known: Dict[bytes, Tuple[Optional["Count"], int, List[bytes], str]] = {}    # by the first words of a line
+    records: Dict[Channel, List[bytes]] = defaultdict(list)
+    pack, number_kept, whole = RECORD.pack, 0, kept is not None and kept.whole
+    for line in listing:
+        # vc V [map M] apid A type T secondary S flags F count C octets N DIGITS
+        head, tail = line.split(b" count ", 1)
+        digits, _, octets, packet = tail.split(b" ", 3)
+        number = int(digits)
+        it = known.get(head)
+        if it is None:
+            key = key_of(head)
+            counted = tally.count_of(key, number) if tally else None
+            it = counted, key[2], records[key[:2]], _name(key[:2], "lines")
+            if tally is None or counted is not tally.others:
+                if len(known) == MOST_APIDS:
+                    known.clear()
+                known[head] = it
+        count, apid, some, name = it
+        if count is not None:
+            count.packets += 1
+            count.octets += int(octets)
+            ahead = (number - count.last - 1) % COUNTS
+            if ahead:
+                count.jumps += 1
+                count.missing += ahead if ahead < COUNTS // 2 else 0
+            count.last = number
+        if kept is not None:
+            some.append(pack(blake2b(packet, digest_size=16).digest(), apid, number))
+            number_kept += 1
+            if number_kept == MOST_PACKETS:
+                kept.put_all(records)
+                number_kept = 0
+            if whole:
+                kept.files.add(name, line)
+    if kept is not None:
+        kept.put_all(records)
+        kept.files.flush()
+
+
+def key_of(head: bytes) -> Key:
+    """The channel and the APID of a packet, by the first words of its line."""
+    words = head.split(b" ", 6)
+    return (int(words[1]), int(words[3]), int(words[5])) if words[2] == b"map" else (int(words[1]), -1, int(words[3]))
 
 
 def _name(channel: Channel, what: str) -> str:

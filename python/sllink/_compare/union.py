@@ -10,8 +10,8 @@ from itertools import compress, islice
 from typing import Deque, Dict, Iterable, Iterator, NoReturn, Optional, Tuple
 
 from ..tool import Refused, reason_of, shown
-from .difference import COUNTS, Only
-from .store import FIELDS, NEAR
+from .difference import Only
+from .store import COUNTS, FIELDS, NEAR
 
 
 class Union:

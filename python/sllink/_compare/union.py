@@ -42,8 +42,8 @@ class Union:
                 self._failed(error)
 
     def merge(self, here: Only, there: Only, a: Iterator[bytes], b: Iterator[bytes]) -> None:
-        """Writes the packets of both between two that both have: those of A first, but where counts say otherwise. Of
-        each packet it is known whether it is new; the lines of all are taken from `a` and `b`."""
+        """Writes what stands between two packets that both have: A's packets first, unless sequence counts decide.
+        `here` and `there` say which packets are new, so are written; the lines of all are taken from `a` and `b`."""
         fresh = [{apid for (apid, _), new in zip(FIELDS.iter_unpack(records), listed) if new}
                  for records, listed in (here, there)]
         if all(fresh) and len(fresh[0] | fresh[1]) > 1:

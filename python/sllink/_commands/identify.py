@@ -49,7 +49,7 @@ NAME = "sllink-identify"
 
 
 def main(words: List[str]) -> int:
-    """What the tool does; its status."""
+    # not by argparse, which has lines of its own for a name that begins with a dash, and takes --opt for --options
     end = words.index("--") if "--" in words else len(words)
     names = [word for word in words[:end] if word != "--options"]
     for name in names:

@@ -42,14 +42,10 @@ PASS, UPLINK = EXAMPLES / "pass.tm", EXAMPLES / "uplink.tc"
 STATION = sllink.Options(scid=1, tm_length=32, tm_fecf=True)
 OF_PASS, OF_UPLINK = sllink.Options(scid=1, tm_length=64), sllink.Options(scid=1, tc_length=16)
 RECORDINGS = [
-    ("tm", PASS, OF_PASS),
-    ("tm", PASS, sllink.Options(scid=42, tm_length=64)),
-    ("tm", FIRST, STATION),
-    ("tm", FIRST, sllink.Options(scid=1, tm_length=32)),
-    ("tm", SECOND, STATION),
-    ("tm", THIRD, STATION),
-    ("tc", UPLINK, OF_UPLINK),
-    ("tc", UPLINK, sllink.Options(scid=1, tc_length=16, tc_fecf=True)),
+    ("tm", PASS, OF_PASS), ("tm", PASS, sllink.Options(scid=42, tm_length=64)),
+    ("tm", FIRST, STATION), ("tm", FIRST, sllink.Options(scid=1, tm_length=32)),
+    ("tm", SECOND, STATION), ("tm", THIRD, STATION),
+    ("tc", UPLINK, OF_UPLINK), ("tc", UPLINK, sllink.Options(scid=1, tc_length=16, tc_fecf=True)),
     ("tc", EXAMPLES / "plain.tc", sllink.Options(scid=1, tc_length=24, plain=[5], vr_of={5: 57})),
     ("tc", PASS, sllink.Options(scid=1)),
 ]

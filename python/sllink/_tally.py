@@ -32,8 +32,14 @@ class Tally:
         self.kind = kind
         self.counts: Dict[Key, Count] = {}                # of the APIDs that come first
         self.others, self.left = Count(), 0               # the packets of all others, and how many APIDs these are
-        self._next: Dict[Channel, "array[int]"] = defaultdict(lambda: array("H", bytes(2 * 2048)))    # of the others:
-        self._read(recording, options, kept)              # the last count and one, or 0
+        # of the others: the last count and one, or 0
+        self._next: Dict[Channel, "array[int]"] = defaultdict(lambda: array("H", bytes(2 * 2048)))
+        try:
+            with output_of("packets", kind, recording, options) as listing:
+                take(listing, kept, self)
+        except ValueError:
+            raise Refused(f"{shown(recording)}: sllink: what it says of packets is no line of them") from None
+        self._next.clear()
 
     def packets(self) -> int:
         return sum(count.packets for count in self.counts.values()) + self.others.packets
@@ -51,14 +57,6 @@ class Tally:
         self.others.last = (following[apid] or number) - 1
         following[apid] = number + 1
         return self.others
-
-    def _read(self, recording: str, options: Sequence[str], kept: Optional[Packets]) -> None:
-        try:
-            with output_of("packets", self.kind, recording, options) as listing:
-                take(listing, kept, self)
-        except ValueError:
-            raise Refused(f"{shown(recording)}: sllink: what it says of packets is no line of them") from None
-        self._next.clear()
 
 
 class Missing:

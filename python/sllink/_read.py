@@ -3,11 +3,9 @@
 import errno
 import io
 import os
-from collections import defaultdict
 from contextlib import ExitStack, closing
-from hashlib import sha256
 from itertools import chain, zip_longest
-from typing import Any, BinaryIO, ContextManager, Dict, Generator, Iterator, Literal, Optional, Union, overload
+from typing import Any, BinaryIO, ContextManager, Generator, Iterator, Literal, Optional, Union, overload
 
 from ._compare.difference import Difference
 from ._compare.store import Packets, room, take
@@ -119,11 +117,10 @@ def same_packets(kind: str, a: Recording, b: Recording, options: Words, b_option
     thousand frames.
 
     Read with the same options, the normal forms are compared, octet by octet. Where the second one has options of its
-    own, the packets of each channel are compared by the SHA-256 of their octets, since a normal form depends on the
-    options too.
+    own, they are the same where `difference` has no run, since a normal form depends on the options too.
     """
     if b_options is not None and words_of(b_options) != words_of(options):
-        return _digests(kind, a, options, program) == _digests(kind, b, b_options, program)
+        return not any(True for _ in difference(kind, a, b, options, b_options, program=program))
     if isinstance(program, Library):
         return program.same_packets(kind, a, b, options)
     with output_of("normalise", kind, a, options, program) as one, \
@@ -150,12 +147,3 @@ def difference(kind: str, a: Recording, b: Recording, options: Words, b_options:
             yield from Difference(sides, folder).runs()
     except Refused as reason:
         raise OSError(str(reason)) from None
-
-
-def _digests(kind: str, recording: Recording, options: Words, program: Program) -> Dict[bytes, bytes]:
-    """Of each channel a digest of its packets, each with its line feed."""
-    found: Dict[bytes, Any] = defaultdict(sha256)
-    with output_of("packets", kind, recording, options, program) as listing:
-        for line in listing:
-            found[line.partition(b" apid ")[0]].update(line.rpartition(b" ")[2])
-    return {channel: digest.digest() for channel, digest in found.items()}

@@ -91,8 +91,8 @@ fn after_eight_bits(mut register: u16) -> u16 {
 
 // The preset is added to the first two octets of a message. So the complement of an octet, alone in
 // a message, gives the octet's word, but for the `FF` that is left of the preset; and so does an
-// octet at a place of three slices of sixteen octets, with `FFFF` against the preset, moved on by
-// the octets that come after it.
+// octet at a place of one slice of sixteen octets, or of three, with `FFFF` against the preset,
+// moved on by the octets that come after it.
 #[test]
 fn one_octet_gives_its_word(rt: HostRuntime) {
     for (octet, word) in &WORDS {
@@ -107,6 +107,14 @@ fn one_octet_gives_its_word(rt: HostRuntime) {
             slices[1] = 0xFF;
             slices[place] ^= octet;
             holds(&rt, &(octet, place), fecf(&slices) == word);
+            // A slice alone goes octet by octet.
+            if place >= 32 {
+                let mut slice = [0; 16];
+                slice[0] = 0xFF;
+                slice[1] = 0xFF;
+                slice[place - 32] ^= octet;
+                holds(&rt, &(octet, place), fecf(&slice) == word);
+            }
             word = after_eight_bits(word);
         }
     }

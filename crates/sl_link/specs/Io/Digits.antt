@@ -1,4 +1,5 @@
--- Digits of numbers, and of octets in hexadecimal. Contracts of private functions alone cite these.
+-- Digits of numbers, for `src/io/digits.rt`, and of octets in hexadecimal, for `hexadecimal.rt` beside it. Contracts of
+-- private functions alone cite these.
 use Rattle.std.specs.Prelude.{◌≡◌, ◌≤◌, ℕ, ◌+◌, ◌*◌, ◌/◌, ◌%◌, List, [], ◌∷◌, ◌++◌, decimal, drop, length, slice_index, take}
 use Rattle.hex.specs.Hex.{encode_lower}
 

@@ -1,7 +1,7 @@
 //! Lines of a listing, put together in a buffer before they are written.
 ghost use Rattle.std.specs.Prelude.{◌≡◌, ◌+◌, ◌*◌, ◌^◌, ◌≤◌, ◌<◌, [], ◌++◌, length, decimal, drop, nat_lt, take};
 ghost use Rattle.hex.specs.Hex.{encode_lower};
-ghost use Rattle.sl_link.specs.Io.Room.{HasRoomFor, lines_size, number_width, reserve};
+ghost use Rattle.sl_link.specs.Io.Lines.{HasRoomFor, lines_size, number_width, reserve};
 
 use crate::io::digits::Decimals;
 use crate::io::hexadecimal::Hexadecimals;
@@ -28,7 +28,7 @@ pub struct Lines {
 
 impl Model for Lines {
     ghost use Rattle.std.specs.Prelude.{ℕ, ◌≡◌, ◌≤◌, List, length, take};
-    ghost use Rattle.sl_link.specs.Io.Room.{lines_size};
+    ghost use Rattle.sl_link.specs.Io.Lines.{lines_size};
 
     ghost Value = { List ℕ };
 

@@ -1,7 +1,7 @@
 //! Lines that wait, and the writer that they go to.
 ghost use Rattle.std.specs.Prelude.{◌≡◌, [], IfErr, OnErr, OnOk};
 ghost use Rattle.sl_link.specs.Io.Output.{Adds, KeepsWriter};
-ghost use Rattle.sl_link.specs.Io.Room.{HasRoom};
+ghost use Rattle.sl_link.specs.Io.Lines.{HasRoom};
 ghost use Rattle.sl_link.specs.Io.Streams.{StopsWriting};
 
 use crate::io::lines::Lines;

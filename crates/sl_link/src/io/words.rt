@@ -1,8 +1,8 @@
 //! Lines and words that several verbs have.
 ghost use Rattle.std.specs.Prelude.{◌≡◌, ◌+◌, ◌≤◌, ◌++◌, length, codes, decimal};
 ghost use Rattle.sl_fields.specs.Field.{bit_of};
-ghost use Rattle.sl_link.specs.Io.Line.{line_at, tc_skip_word, tm_skip_word, verdict_word};
-ghost use Rattle.sl_link.specs.Io.Room.{HasRoom, HasRoomFor, line_width, number_width};
+ghost use Rattle.sl_link.specs.Io.Words.{line_at, tc_skip_word, tm_skip_word, verdict_word};
+ghost use Rattle.sl_link.specs.Io.Lines.{HasRoom, HasRoomFor, line_width, number_width};
 
 use crate::io::lines::Lines;
 use sl_cop::Verdict;

@@ -1,11 +1,9 @@
 -- Frames of a kind while they are checked, in terms of the code. Contracts of private functions alone cite these.
-use Rattle.std.specs.Prelude.{◌≡◌, ℕ, ◌+◌, ◌==◌, ◌≤◌, Bool, not, ◌&&◌, is_some, List, [], ◌++◌, length}
+use Rattle.std.specs.Prelude.{◌≡◌, ℕ, ◌+◌, ◌≤◌, List, [], ◌++◌, length}
 use Rattle.std.specs.List.{concat}
-use Rattle.sl_link.specs.Io.Room.{line_width}
+use Rattle.sl_link.specs.Io.Lines.{line_width}
 use Rattle.sl_link.specs.Link.Totals.{Counts}
 use Rattle.sl_link.specs.Kind.Delivery.{HasDelivered, Kind}
-use Rattle.sl_link.specs.Kind.Tc.{TcFinding}
-use Rattle.sl_link.specs.Verbs.Check.Tc.{discards}
 use Rattle.sl_link.specs.Verbs.Listing.{lines_from}
 
 -- this line was added, or none, and this is the number of lines
@@ -14,12 +12,6 @@ pub record AddsAnomalies (old : List ℕ) (lines : List (List ℕ)) (new : List 
   pub number : many ≡ length lines
   pub few : many ≤ 1
   pub short : length new ≤ length old + line_width
-
--- a TC frame has no line, by what is found of it
-abbrev pub is_quiet : TcFinding → Bool
-is_quiet found =
-    not (discards found.verdict) && (not found.stray && (not (is_some found.dropped)
-    && (not found.long && (found.tail == 0))))
 
 -- these frames were processed and counted, and so were their anomalies
 abbrev pub HasChecked : Kind → (List (List ℕ) → List ℕ → List (List ℕ)) → (List (List ℕ) → Type 0)

@@ -1,7 +1,7 @@
 -- The lines of the anomalies of a recording, as `check` writes them, and of its totals.
 use Rattle.std.specs.Prelude.{ℕ, ◌+◌, ◌==◌, Bool, if◌then◌else◌, List, [], ◌∷◌, ◌++◌, length, flat_map, codes, decimal, Option, None, Some}
 use Rattle.std.specs.List.{concat}
-use Rattle.sl_link.specs.Io.Line.{line_at}
+use Rattle.sl_link.specs.Io.Words.{line_at}
 use Rattle.sl_link.specs.Kind.Delivery.{Kind, counts_in}
 use Rattle.sl_link.specs.Link.Totals.{Counts}
 use Rattle.sl_link.specs.Verbs.Listing.{Listing, lines_from}

@@ -1,5 +1,5 @@
 -- The anomalies of a TC recording, as `check tc` lists them: a line for each, and then the totals.
-use Rattle.std.specs.Prelude.{ℕ, ◌/◌, ◌%◌, Bool, true, false, nat_lt, if◌then◌else◌, length, codes, List, [], ◌∷◌}
+use Rattle.std.specs.Prelude.{ℕ, ◌/◌, ◌%◌, ◌==◌, Bool, true, false, not, ◌&&◌, nat_lt, if◌then◌else◌, length, codes, List, [], ◌∷◌}
 use Rattle.std.specs.Prelude.{◌++◌, decimal, Option, None, Some, is_some, option_map, Result, Ok, Err}
 use Rattle.sl_cop.specs.declared.verdict.Verdict.{Verdict}
 use Rattle.sl_cop.specs.declared.verdict.Verdict.TheVariants.{Accept, Early, Late, Outside, Refused, Command}
@@ -12,7 +12,7 @@ use Rattle.sl_tcflow.specs.Reception.{segments_of}
 use Rattle.sl_tcflow.specs.ReceptionParameters.{ReceptionParameters}
 use Rattle.sl_link.specs.Verbs.Check.Lines.{anomalies_by, check_listing, event_anomaly}
 use Rattle.sl_link.specs.Kind.Tc.{TcFinding, tc_found, tc_kind}
-use Rattle.sl_link.specs.Io.Line.{line_at, tc_skip_word, verdict_word}
+use Rattle.sl_link.specs.Io.Words.{line_at, tc_skip_word, verdict_word}
 use Rattle.sl_link.specs.Link.Managed.{Parameters, reception_of, tc_format}
 use Rattle.sl_link.specs.Link.Totals.{Counts}
 use Rattle.sl_link.specs.Tally.{listing_counts}
@@ -48,6 +48,12 @@ check_tc_lines offset (Ok found) =
     ++ event_anomaly offset found.vc (Some found.map) (codes " long") found.long None
     ++ event_anomaly offset found.vc (Some found.map) (codes " tail") (nat_lt 0 found.tail) (Some found.tail)
 check_tc_lines offset (Err reason) = line_at offset (codes " skip " ++ tc_skip_word reason) ∷ []
+
+-- a frame has no line, by what is found of it. The contract of a private function alone cites this.
+abbrev pub is_quiet : TcFinding → Bool
+is_quiet found =
+    not (discards found.verdict) && (not found.stray && (not (is_some found.dropped)
+    && (not found.long && (found.tail == 0))))
 
 -- ---- a recording
 

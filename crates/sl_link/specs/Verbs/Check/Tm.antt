@@ -6,7 +6,7 @@ use Rattle.sl_tmflow.specs.VirtualChannel.{views_on, views_of}
 use Rattle.sl_tmflow.specs.Incomplete.{incomplete_of}
 use Rattle.sl_link.specs.Verbs.Check.Lines.{anomalies_by, check_listing, event_anomaly, event_line}
 use Rattle.sl_link.specs.Kind.Tm.{TmFinding, tm_found, tm_kind}
-use Rattle.sl_link.specs.Io.Line.{line_at, tm_skip_word}
+use Rattle.sl_link.specs.Io.Words.{line_at, tm_skip_word}
 use Rattle.sl_link.specs.Link.Managed.{Parameters, tm_format}
 use Rattle.sl_link.specs.Link.Totals.{Counts}
 use Rattle.sl_link.specs.Tally.{listing_counts}

@@ -1,7 +1,7 @@
 -- The listing of the frames of a recording, whatever kind they are.
 use Rattle.std.specs.Prelude.{◌≡◌, ℕ, ◌+◌, Bool, List, length}
 use Rattle.std.specs.List.{concat}
-use Rattle.sl_link.specs.Io.Line.{remainder_line}
+use Rattle.sl_link.specs.Io.Words.{remainder_line}
 use Rattle.sl_link.specs.Link.Totals.{Counts}
 use Rattle.sl_link.specs.Tally.{counts_so_far, counts_with, skipped_in}
 use Rattle.sl_link.specs.Verbs.Listing.{Listing}

@@ -13,7 +13,7 @@ use Rattle.sl_tcframe.specs.VcSet.{has_vc}
 use Rattle.sl_tcflow.specs.AcceptedUnit.{event_of, views_of}
 use Rattle.sl_tcflow.specs.Farms.{farm_of}
 use Rattle.sl_tcflow.specs.Series.{header_at}
-use Rattle.sl_link.specs.Io.Line.{line_at, tc_skip_word, verdict_word}
+use Rattle.sl_link.specs.Io.Words.{line_at, tc_skip_word, verdict_word}
 use Rattle.sl_link.specs.Link.Managed.{Parameters, reception_of, tc_format}
 use Rattle.sl_link.specs.Link.Totals.{Counts}
 use Rattle.sl_link.specs.Verbs.Show.Shown.{show_listing}

@@ -7,7 +7,7 @@ use Rattle.sl_fields.specs.Clcw.{ClcwFields, clcw_word}
 use Rattle.sl_tmframe.specs.declared.tm_frame.TmSkip.{TmSkip}
 use Rattle.sl_tmframe.specs.TmFrame.{TmView, DataField, Packets, Idle, Opaque, tm_frame}
 use Rattle.sl_tmframe.specs.TmDelimited.{tm_frames_of}
-use Rattle.sl_link.specs.Io.Line.{line_at, tm_skip_word}
+use Rattle.sl_link.specs.Io.Words.{line_at, tm_skip_word}
 use Rattle.sl_link.specs.Link.Managed.{Parameters, tm_format}
 use Rattle.sl_link.specs.Link.Totals.{Counts}
 use Rattle.sl_link.specs.Verbs.Show.Shown.{show_listing}

@@ -1,7 +1,7 @@
 //! The lines that `check` has for a kind of frames, TM or TC.
 ghost use Rattle.std.specs.Prelude.{◌≡◌, ◌<◌, ◌≤◌, ◌++◌, [], ℕ, List, length, flat_map};
 ghost use Rattle.std.specs.List.{concat};
-ghost use Rattle.sl_link.specs.Io.Room.{HasRoom};
+ghost use Rattle.sl_link.specs.Io.Lines.{HasRoom};
 ghost use Rattle.sl_link.specs.Verbs.Check.Checking.{AddsAnomalies};
 
 use crate::io::lines::Lines;

@@ -3,7 +3,7 @@
 //! most a number of octets; a gap, a skip and a discarded frame have lines of their own.
 ghost use Rattle.std.specs.Prelude.{◌≡◌, ◌+◌, ◌≤◌, ◌++◌, length, decimal};
 ghost use Rattle.std.specs.List.{concat};
-ghost use Rattle.sl_link.specs.Io.Room.{HasRoom, HasRoomFor, event_width, line_width, number_width};
+ghost use Rattle.sl_link.specs.Io.Lines.{HasRoom, HasRoomFor, event_width, line_width, number_width};
 ghost use Rattle.sl_link.specs.Verbs.Check.Checking.{AddsAnomalies};
 ghost use Rattle.sl_link.specs.Verbs.Check.Lines.{event_anomaly, event_line, remainder_anomaly, some_text, totals_line};
 

@@ -1,9 +1,9 @@
 //! The lines of the anomalies of a TC recording.
 ghost use Rattle.std.specs.Prelude.{◌≡◌, if◌then◌else◌, [], ◌++◌, length, Ok};
 ghost use Rattle.std.specs.List.{concat};
-ghost use Rattle.sl_link.specs.Io.Room.{HasRoom, HasRoomFor, line_width};
-ghost use Rattle.sl_link.specs.Verbs.Check.Checking.{AddsAnomalies, is_quiet};
-ghost use Rattle.sl_link.specs.Verbs.Check.Tc.{discarded_anomaly, discards, check_tc_lines};
+ghost use Rattle.sl_link.specs.Io.Lines.{HasRoom, HasRoomFor, line_width};
+ghost use Rattle.sl_link.specs.Verbs.Check.Checking.{AddsAnomalies};
+ghost use Rattle.sl_link.specs.Verbs.Check.Tc.{check_tc_lines, discarded_anomaly, discards, is_quiet};
 
 use crate::io::lines::Lines;
 use crate::io::words::{push_tc_skip, push_verdict};

@@ -1,7 +1,7 @@
 //! The lines of the anomalies of a TM recording.
 ghost use Rattle.std.specs.Prelude.{◌≡◌, ◌++◌, length, Ok};
 ghost use Rattle.std.specs.List.{concat};
-ghost use Rattle.sl_link.specs.Io.Room.{HasRoom, HasRoomFor, line_width};
+ghost use Rattle.sl_link.specs.Io.Lines.{HasRoom, HasRoomFor, line_width};
 ghost use Rattle.sl_link.specs.Verbs.Check.Checking.{AddsAnomalies};
 ghost use Rattle.sl_link.specs.Verbs.Check.Tm.{gap_anomaly, check_tm_lines};
 

@@ -3,7 +3,7 @@ ghost use Rattle.std.specs.Prelude.{◌≡◌, ◌+◌, ◌≤◌, ◌++◌, len
 ghost use Rattle.hex.specs.Hex.{encode_lower};
 ghost use Rattle.sl_link.specs.Verbs.Packets.Line.{fields_text, header_text, other_fields_text, packet_text, size_text};
 ghost use Rattle.sl_link.specs.Io.Output.{Adds, KeepsWriter};
-ghost use Rattle.sl_link.specs.Io.Room.{HasRoomFor, fields_width, part_width, text_width, words_width};
+ghost use Rattle.sl_link.specs.Io.Lines.{HasRoomFor, fields_width, part_width, text_width, words_width};
 ghost use Rattle.sl_link.specs.Io.Streams.{StopsWriting};
 
 use crate::io::lines::Lines;

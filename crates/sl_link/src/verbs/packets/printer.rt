@@ -5,7 +5,7 @@ ghost use Rattle.sl_link.specs.Verbs.Packets.Printed.{channel_name};
 ghost use Rattle.sl_link.specs.Verbs.Packets.Line.{packet_line};
 ghost use Rattle.sl_link.specs.Verbs.Packets.Tc.{tc_channel_text};
 ghost use Rattle.sl_link.specs.Io.Output.{Adds, KeepsWriter};
-ghost use Rattle.sl_link.specs.Io.Room.{HasRoom, fields_width};
+ghost use Rattle.sl_link.specs.Io.Lines.{HasRoom, fields_width};
 ghost use Rattle.sl_link.specs.Io.Streams.{StopsWriting};
 
 use crate::io::lines::Lines;

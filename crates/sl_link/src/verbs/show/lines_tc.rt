@@ -8,9 +8,9 @@ ghost use Rattle.sl_tcflow.specs.Farms.{HaveStepped, farm_of};
 ghost use Rattle.sl_tcflow.specs.ReceptionParameters.{ReceptionParameters};
 ghost use Rattle.sl_tcflow.specs.Series.{header_at};
 ghost use Rattle.sl_link.specs.Kind.Delivery.{with_frame};
-ghost use Rattle.sl_link.specs.Io.Line.{verdict_word};
+ghost use Rattle.sl_link.specs.Io.Words.{verdict_word};
 ghost use Rattle.sl_link.specs.Verbs.Show.Tc.{flags_word, unit_text, content_text, step_text, tc_view_text, tc_frame_text};
-ghost use Rattle.sl_link.specs.Io.Room.{HasRoomFor, fields_width, number_width, part_width, text_width, words_width};
+ghost use Rattle.sl_link.specs.Io.Lines.{HasRoomFor, fields_width, number_width, part_width, text_width, words_width};
 
 use crate::io::lines::Lines;
 use crate::io::words::{push_tc_skip, push_verdict};

@@ -2,7 +2,7 @@
 ghost use Rattle.std.specs.Prelude.{◌≡◌, ◌+◌, ◌≤◌, ◌++◌, codes, length};
 ghost use Rattle.sl_tmframe.specs.TmField.{data_field};
 ghost use Rattle.sl_link.specs.Verbs.Show.Tm.{clcw_fields_text, word_text, control_text, field_text, frame_counts_text, tm_view_text, tm_frame_text};
-ghost use Rattle.sl_link.specs.Io.Room.{HasRoomFor, fields_width, part_width, text_width, words_width};
+ghost use Rattle.sl_link.specs.Io.Lines.{HasRoomFor, fields_width, part_width, text_width, words_width};
 
 use crate::io::lines::Lines;
 use crate::io::words::{push_flag, push_tm_skip};

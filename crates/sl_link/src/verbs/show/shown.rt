@@ -1,7 +1,7 @@
 //! How a frame of a kind, TM or TC, is shown.
 ghost use Rattle.std.specs.Prelude.{◌≡◌, ◌+◌, ◌<◌, ◌++◌, ◌∷◌, [], ℕ, Bool, List, decimal, length};
 ghost use Rattle.std.specs.List.{concat};
-ghost use Rattle.sl_link.specs.Io.Room.{HasRoomFor, text_width};
+ghost use Rattle.sl_link.specs.Io.Lines.{HasRoomFor, text_width};
 
 use crate::io::lines::Lines;
 use crate::link::managed::Managed;

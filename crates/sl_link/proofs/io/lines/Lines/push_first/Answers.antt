@@ -1,7 +1,7 @@
 use Rattle.std.proofs.Common.{◌≡◌, ◌+◌, ◌++◌, length, take, ℕ, List, arith, sym, ◌∙◌, ap}
 use Rattle.std.proofs.lemmas.List.{length-take-le}
 use Rattle.std.specs.List.{refill}
-use Rattle.sl_link.proofs.lemmas.Io.Buffer.{added}
+use Rattle.sl_link.proofs.lemmas.Io.Lines.{added}
 use Rattle.sl_link.proofs.io.lines.Lines.push_first.Goals as goal
 
 pub returns : goal.returns

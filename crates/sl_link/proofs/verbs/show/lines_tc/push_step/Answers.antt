@@ -4,7 +4,7 @@ use Rattle.sl_cop.specs.FarmClcw.{clcw_of}
 use Rattle.sl_fields.specs.Clcw.{clcw_octets}
 use Rattle.sl_tcflow.specs.Farms.{farm_of}
 use Rattle.sl_tcflow.proofs.lemmas.Reception.Farm.{farm_next}
-use Rattle.sl_link.specs.Io.Line.{verdict_word}
+use Rattle.sl_link.specs.Io.Words.{verdict_word}
 use Rattle.sl_link.proofs.verbs.show.lines_tc.push_step.Goals as goal
 
 pub returns-clause-text : goal.returns-clause-text

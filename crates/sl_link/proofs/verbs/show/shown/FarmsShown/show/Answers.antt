@@ -5,7 +5,7 @@ use Rattle.sl_tcflow.specs.Farms.{HaveStepped}
 use Rattle.std.specs.List.{concat}
 use Rattle.sl_link.specs.Link.Managed.{Parameters, reception_of, tc_format}
 use Rattle.sl_link.specs.Verbs.Show.Tc.{farm_before, tc_frame_text}
-use Rattle.sl_link.proofs.lemmas.Io.Line.{line_after}
+use Rattle.sl_link.proofs.lemmas.Io.Words.{line_after}
 use Rattle.sl_link.proofs.lemmas.Kind.Delivery.{views_next}
 use Rattle.sl_link.proofs.verbs.show.shown.FarmsShown.show.Goals as goal
 

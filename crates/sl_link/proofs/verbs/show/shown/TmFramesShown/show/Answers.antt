@@ -2,7 +2,7 @@ use Rattle.std.proofs.Common.{◌≡◌, length, rules}
 use Rattle.std.specs.List.{concat}
 use Rattle.sl_tmframe.specs.TmFrame.{tm_frame}
 use Rattle.sl_link.specs.Link.Managed.{tm_format}
-use Rattle.sl_link.proofs.lemmas.Io.Line.{line_after}
+use Rattle.sl_link.proofs.lemmas.Io.Words.{line_after}
 use Rattle.sl_link.proofs.verbs.show.shown.TmFramesShown.show.Goals as goal
 
 pub returns-clause-line : goal.returns-clause-line

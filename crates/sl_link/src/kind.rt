@@ -80,8 +80,8 @@ pub trait Delivery: Drop {
             → has_processed self.old managed.now before → fault ≡ FlowFault.Memory
             → is_incomplete_at_last managed.now (before ++ frame.now ∷ [])) };
 
-    /// What holds of the kind (`AreDelivered`), and that the frames that were processed deliver at
-    /// most as many packets as they have octets.
+    /// The kind adds packets by channel, and the frames that were processed deliver at most as many
+    /// packets as they have octets.
     ghost within: { (delivery : Self) (p : Parameters) (frames : List (List ℕ))
         → has_processed delivery p frames → IsWithin (kind p) frames };
 }

@@ -2,7 +2,7 @@
 ghost use Rattle.std.specs.Prelude.{◌≡◌, ◌≢◌, [], ℕ, List, IfOk, IfErr, OnOk};
 ghost use Rattle.sl_tcframe.specs.TcDelimited.{tc_frames_of};
 ghost use Rattle.sl_tmframe.specs.TmDelimited.{tm_frames_of};
-ghost use Rattle.sl_link.specs.Kind.Delivery.{AreDelivered, AreStored, MayRefuseStoreMemory, counts_in, packets_by_channel};
+ghost use Rattle.sl_link.specs.Kind.Delivery.{AddsByChannel, AreStored, MayRefuseStoreMemory, counts_in, packets_by_channel};
 ghost use Rattle.sl_link.specs.Kind.Tc.{MayRefuseStoreMemoryTc, tc_counts, tc_packets};
 ghost use Rattle.sl_link.specs.Kind.Tm.{MayRefuseStoreMemoryTm, tm_counts, tm_packets};
 ghost use Rattle.sl_link.specs.Link.Managed.{tc_format};
@@ -274,8 +274,8 @@ pub fn store_packets_in_memory<D: Delivery, F: Framer>(
     requires none { F.waits framer.old managed.now [] }
     requires same { (frame : List ℕ) → F.is_frame managed.now frame → D.is_frame managed.now frame }
     requires frames { F.frames_of managed.now ≡ (D.kind managed.now).frames_of }
-    // `AreDelivered` is not about this call: it is what holds of the kind, which callers need.
-    ensures all { IfOk result (λ stored. AreDelivered (D.kind managed.now)
+    // `AddsByChannel` holds of the kind; callers need it.
+    ensures all { IfOk result (λ stored. AddsByChannel (D.kind managed.now)
         × AreStored (D.kind managed.now) ((D.kind managed.now).frames_of recording.now)
         stored.lists) }
     ensures memory { IfErr result (IsMemoryRefused (MayRefuseMemoryIn (D.kind managed.now).frames_of

@@ -62,7 +62,7 @@ counts_in k frames remainder =
 -- ---- what holds of a kind
 
 -- A frame adds the packets that end in it to those of its channel, and none to another's.
-pub record AreDelivered (k : Kind) : Type 0 where
+pub record AddsByChannel (k : Kind) : Type 0 where
   pub none : (channel : ℕ) → k.packets [] channel ≡ []
   pub own : (frames : List (List ℕ)) (frame : List ℕ) → k.packets (frames ++ frame ∷ []) (k.channel frame)
       ≡ k.packets frames (k.channel frame) ++ k.ended frames frame
@@ -74,10 +74,10 @@ pub record AreDelivered (k : Kind) : Type 0 where
 
 -- ---- while frames are processed. Contracts of private functions alone cite this section.
 
--- The kind is as `AreDelivered` says, and the frames deliver at most as many packets, idle ones
--- included, as they have octets.
+-- The kind adds packets by channel, and the frames deliver at most as many packets, idle ones included, as they have
+-- octets.
 pub record IsWithin (k : Kind) (frames : List (List ℕ)) : Type 0 where
-  pub delivered : AreDelivered k
+  pub adds : AddsByChannel k
   pub within : number_of_packets k frames + number_of_idle k frames ≤ length (concat frames)
 
 -- the report on a frame that comes after these frames

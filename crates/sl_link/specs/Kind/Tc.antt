@@ -26,12 +26,6 @@ abbrev pub ended_in : ReceptionParameters → List TcView → Result TcView TcSk
 ended_in r views (Ok view) = ended_by r views view
 ended_in r views (Err reason) = []
 
--- That the next frame's unit is accepted, and a series is incomplete before or after it on its MAP, where that frame is
--- read. Lemmas alone cite it.
-abbrev pub is_incomplete_around : ReceptionParameters → List TcView → Result TcView TcSkip → Type 0
-is_incomplete_around r views (Ok view) = IsIncompleteAround r views view
-is_incomplete_around r views (Err reason) = ⊥
-
 -- the channel of the unit of a frame, 0 where the frame is skipped
 abbrev pub unit_channel_of : ReceptionParameters → Result TcView TcSkip → ℕ
 unit_channel_of r (Ok view) = unit_channel r view

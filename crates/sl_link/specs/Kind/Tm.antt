@@ -21,12 +21,6 @@ abbrev pub ended_in : List TmView → Result TmView TmSkip → List (List ℕ)
 ended_in views (Ok view) = ended_by views view
 ended_in views (Err reason) = []
 
--- That a packet is incomplete before or after the next frame, on its virtual channel, where that frame is read. Lemmas
--- alone cite it.
-abbrev pub is_incomplete_around : List TmView → Result TmView TmSkip → Type 0
-is_incomplete_around views (Ok view) = IsIncompleteAround views view
-is_incomplete_around views (Err reason) = ⊥
-
 -- the virtual channel of a frame, 0 where the frame is skipped
 abbrev pub vc_of : Result TmView TmSkip → ℕ
 vc_of (Ok view) = view.vc

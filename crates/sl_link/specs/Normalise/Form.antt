@@ -6,7 +6,7 @@ use Rattle.sl_link.specs.declared.link.counted.Counted.{Counted}
 use Rattle.sl_link.specs.declared.link.fault.LinkFault.{LinkFault}
 use Rattle.sl_link.specs.declared.link.fault.LinkFault.TheVariants.{Memory}
 use Rattle.sl_link.specs.Io.Streams.{ReadsAll}
-use Rattle.sl_link.specs.Kind.Delivery.{AreDelivered, AreStored, Kind, counts_in, packets_by_channel}
+use Rattle.sl_link.specs.Kind.Delivery.{AddsByChannel, AreStored, Kind, counts_in, packets_by_channel}
 use Rattle.sl_link.specs.Link.Totals.{Counts}
 use Rattle.sl_link.specs.Tally.{listing_counts}
 
@@ -24,13 +24,12 @@ channel_lists k lists = take k.channel_limit lists
 abbrev pub HasSome : Kind → List (List (List ℕ)) → Type 0
 HasSome k lists = ((channel : ℕ) → channel < k.channel_limit → slice_index_or lists channel [] ≡ []) → ⊥
 
--- All of a recording was read, its packets are stored, and these are its counts. `delivered` isn't about this
--- recording: it is what holds of the kind.
+-- All of a recording was read, its packets are stored, and these are its counts.
 pub record StoresAll {R : Type 0} (remaining : R → Option (List ℕ)) (reader reader' : Counted R) (k : Kind) (limit : ℕ)
     (lists : List (List (List ℕ))) (totals : Counts) : Type 0 where
   pub octets : List ℕ
   pub all : ReadsAll remaining reader reader' limit octets
-  pub delivered : AreDelivered k
+  pub adds : AddsByChannel k
   pub stored : AreStored k (k.frames_of octets) lists
   pub counts : totals ≡ listing_counts (counts_in k) k.frames_of octets
 

@@ -17,7 +17,7 @@ use Rattle.sl_packet.proofs.WithoutIdleLemmas.{without_idle-append}
 use Rattle.sl_link.specs.declared.tally.FrameReport.{FrameReport}
 use Rattle.sl_link.specs.Link.Totals.{Counts}
 use Rattle.sl_link.specs.Tally.{counts_more, counts_so_far, counts_with_anomalies, skipped_in, no_counts}
-use Rattle.sl_link.specs.Kind.Delivery.{AreDelivered, AreStored, Delivers, HasDelivered, IsReport, IsWithin, Kind, count_of, number_of_idle, delivered_packets, number_of_packets, with_frame, with_packets}
+use Rattle.sl_link.specs.Kind.Delivery.{AddsByChannel, AreStored, Delivers, HasDelivered, IsReport, IsWithin, Kind, count_of, number_of_idle, delivered_packets, number_of_packets, with_frame, with_packets}
 use Rattle.sl_link.proofs.lemmas.Kind.Channels.{items_change, map_range, no_items, none_of}
 
 -- ---- frames that are counted one after another
@@ -47,7 +47,7 @@ views_next read frames frame = grind (arith, filter_map-append, append-nil)
 pub octets_counted : {k : Kind} {had : List (List ℕ) → Type 0} {frames : List (List ℕ)} {anomalies : ℕ} {t : Counts} → HasDelivered k had frames anomalies t → t.octets ≡ length (concat frames)
 octets_counted d = ap (λ (c : Counts). c.octets) d.counts
 
-module _ (k : Kind) (laws : AreDelivered k) where
+module _ (k : Kind) (laws : AddsByChannel k) where
   -- the packets of a channel that pass a test
   abbrev passing : (List ℕ → Bool) → List (List ℕ) → ℕ → List (List ℕ)
   passing test frames channel = filter test (k.packets frames channel)
@@ -74,7 +74,7 @@ module _ (k : Kind) (laws : AreDelivered k) where
 
   -- none yet
   pub none_within : IsWithin k []
-  none_within = record { delivered = laws; within = omega (arith, no_packets, no_idle) }
+  none_within = record { adds = laws; within = omega (arith, no_packets, no_idle) }
 
   pub none_delivered : {had : List (List ℕ) → Type 0} → had [] → HasDelivered k had [] 0 no_counts
   none_delivered had = record { processed = had; counts = rw (no_packets, no_idle) refl; few = omega arith }
@@ -128,7 +128,7 @@ takes_all [] old new channel inside same = rw same (simp (append-nil, set-get_or
 takes_all (packet ∷ packets) old new channel inside t =
     takes_all packets t.0 new channel (omega (arith, inside, ap length t.1, length-set {A = List (List ℕ)})) t.2 ∙ simp (t.1, get_or-set_same, set-set, append_assoc)
 
-module _ (k : Kind) (laws : AreDelivered k) where
+module _ (k : Kind) (laws : AddsByChannel k) where
   pub none_stored : (lists : List (List (List ℕ))) → lists ≡ empty_lists → AreStored k [] lists
   none_stored lists none = grind (arith, length-empty_lists, list_at-empty_lists, laws.none)
 
@@ -152,7 +152,7 @@ module _ (k : Kind) (laws : AreDelivered k) where
     ]
 
 -- what is stored is the same exactly where the packets are: past the last channel there are none
-pub same_stored : (k : Kind) → AreDelivered k → (frames others : List (List ℕ)) (lists stored : List (List (List ℕ))) → AreStored k frames lists → AreStored k others stored
+pub same_stored : (k : Kind) → AddsByChannel k → (frames others : List (List ℕ)) (lists stored : List (List (List ℕ))) → AreStored k frames lists → AreStored k others stored
     → {P : Type 0} → (P ↔ (lists ≡ stored)) → P ↔ (delivered_packets k frames ≡ delivered_packets k others)
 same_stored k laws frames others lists stored one other reported =
     let mine = all_stored k laws frames lists one in

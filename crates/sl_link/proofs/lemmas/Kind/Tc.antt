@@ -11,12 +11,12 @@ use Rattle.sl_tcframe.specs.declared.tc_frame.TcSkip.{TcSkip}
 use Rattle.sl_tcframe.specs.TcFrame.{TcView, Content, command_of, content_of, early_reason, is_cut, tc_header_of, tc_parts_of, read_as, unit_content}
 use Rattle.sl_tcframe.proofs.PartLemmas.{cut_facts}
 use Rattle.sl_tcflow.specs.AcceptedUnit.{views_of}
-use Rattle.sl_tcflow.specs.Receiver.{ReceiverState, HasProcessed, unit_channel, incomplete_octets_on}
+use Rattle.sl_tcflow.specs.Receiver.{ReceiverState, HasProcessed, IsIncompleteAround, unit_channel, incomplete_octets_on}
 use Rattle.sl_tcflow.specs.ReceptionParameters.{ReceptionParameters, is_plain}
 use Rattle.sl_tcflow.specs.Recording.{map_channels, packets_of_channel}
 use Rattle.sl_tcflow.proofs.lemmas.Reception.Channel.{held_other, held_own, packets_other, packets_own, small_map, unit_len}
-use Rattle.sl_link.specs.Kind.Tc.{HasProcessedTc, IsIncompleteAtLastTc, as_read, unit_channel_of, ended_in, octets_held_after, is_incomplete_around, tc_kind}
-use Rattle.sl_link.specs.Kind.Delivery.{AreDelivered, count_of, number_of_idle, number_of_packets, with_frame}
+use Rattle.sl_link.specs.Kind.Tc.{HasProcessedTc, IsIncompleteAtLastTc, as_read, unit_channel_of, ended_in, octets_held_after, tc_kind}
+use Rattle.sl_link.specs.Kind.Delivery.{AddsByChannel, count_of, number_of_idle, number_of_packets, with_frame}
 use Rattle.sl_link.specs.Link.Managed.{Parameters, reception_of, tc_format}
 use Rattle.sl_link.proofs.lemmas.Kind.Delivery.{idle_more, no_idle, no_packets, none_within, octets_more, packets_more, views_next}
 use Rattle.sl_link.proofs.lemmas.Kind.Channels.{items_change, no_items}
@@ -59,8 +59,8 @@ module _ (r : ReceptionParameters) where
   other_step : (views : List TcView) (read : Result TcView TcSkip) (channel : ℕ) → unit_channel_of r read ≢ channel → packets_of_channel r (with_frame views read) channel ≡ packets_of_channel r views channel
   other_step views read channel other = grind (arith, packets_other)
 
-pub tc_delivered : (p : Parameters) → AreDelivered (tc_kind p)
-tc_delivered p = record {
+pub tc_adds_by_channel : (p : Parameters) → AddsByChannel (tc_kind p)
+tc_adds_by_channel p = record {
   none = λ channel. refl;
   own = λ frames frame. rw (views_next (as_read p) frames frame) (own_step (reception_of p) (views_of (tc_format p) p.spacecraft frames) (as_read p frame));
   other = λ frames frame channel apart. rw (views_next (as_read p) frames frame) (other_step (reception_of p) (views_of (tc_format p) p.spacecraft frames) (as_read p frame) channel apart);
@@ -85,7 +85,7 @@ held_next p views (Ok view) range =
 
 pub none_processed : (p : Parameters) (state : ReceiverState) → HasProcessed (reception_of p) state [] → HasProcessedTc p state []
 none_processed p state processed =
-    let laws = tc_delivered p in
+    let laws = tc_adds_by_channel p in
     let held : octets_held_after p [] ≡ 0 = no_items (incomplete_octets_on (reception_of p) []) map_channels (λ channel. refl) in
     search (arith, none_within (tc_kind p) laws, no_packets (tc_kind p) laws, no_idle (tc_kind p) laws, held)
 
@@ -96,7 +96,7 @@ some_octets p frame cut = let least = (cut_facts (tc_format p) frame cut).0 in o
 pub one_processed : {p : Parameters} {before : List (List ℕ)} (frame : List ℕ) {state state' : ReceiverState} {r : Result TcView TcSkip} → HasProcessedTc p state before → as_read p frame ≡ r
     → HasProcessed (reception_of p) state' (with_frame (views_of (tc_format p) p.spacecraft before) r) → HasProcessedTc p state' (before ++ frame ∷ [])
 one_processed {p} {before} frame had is processed =
-    let laws = tc_delivered p in
+    let laws = tc_adds_by_channel p in
     let seen = views_of (tc_format p) p.spacecraft before in
     let read = as_read p frame in
     let next = views_next (as_read p) before frame in
@@ -106,9 +106,14 @@ one_processed {p} {before} frame had is processed =
     let split = split_count (ended_in (reception_of p) seen read) in
     let held : number_of_packets (tc_kind p) (before ++ frame ∷ []) + number_of_idle (tc_kind p) (before ++ frame ∷ []) + octets_held_after p (before ++ frame ∷ []) ≤ length (concat (before ++ frame ∷ [])) =
     omega (arith, within, few, held_is, unit_within p frame, split, packets_more (tc_kind p) laws before frame, idle_more (tc_kind p) laws before frame, octets_more before frame) in
-    record { processed = rw (next, is) processed; within = record { delivered = laws; within = omega (arith, held) }; held = held }
+    record { processed = rw (next, is) processed; within = record { adds = laws; within = omega (arith, held) }; held = held }
 
--- a series is incomplete around a frame
+-- the next frame's unit is accepted, and a series is incomplete before or after it on its MAP, where that frame is read
+abbrev pub is_incomplete_around : ReceptionParameters → List TcView → Result TcView TcSkip → Type 0
+is_incomplete_around r views (Ok view) = IsIncompleteAround r views view
+is_incomplete_around r views (Err reason) = ⊥
+
+-- so one is at the last of the frames
 pub is_incomplete_at_last : {p : Parameters} (before : List (List ℕ)) (frame : List ℕ) {read : Result TcView TcSkip} → as_read p frame ≡ read
     → is_incomplete_around (reception_of p) (views_of (tc_format p) p.spacecraft before) read → IsIncompleteAtLastTc p (before ++ frame ∷ [])
 is_incomplete_at_last before frame {read = Ok view} e incomplete = record { before = before; frame = frame; in_order = refl; view = view; is_read = e; incomplete = incomplete }

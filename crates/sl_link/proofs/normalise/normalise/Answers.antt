@@ -10,22 +10,22 @@ returns-in_err-delivered-clause-fault g c = passed_up _ _ c.from_residual.ensure
 pub returns-in_err-write-clause-fault : goal.returns-in_err-write-clause-fault
 returns-in_err-write-clause-fault g c =
     let d = c.in_ok-delivered.ensures.all in
-    passed_up _ _ c.from_residual-in_err-write.ensures.1 (stops_at_form d.all (ap (g.D.Formed.form_of c.args.managed.now) (all_stored _ d.delivered _ _ d.stored)) c.in_err-write.ensures.fault)
+    passed_up _ _ c.from_residual-in_err-write.ensures.1 (stops_at_form d.all (ap (g.D.Formed.form_of c.args.managed.now) (all_stored _ d.adds _ _ d.stored)) c.in_err-write.ensures.fault)
 
 pub returns-in_err-write-clause-memory : goal.returns-in_err-write-clause-memory
 returns-in_err-write-clause-memory g c =
     let d = c.in_ok-delivered.ensures.all in
-    passed_up _ _ c.from_residual-in_err-write.ensures.1 (λ e. refused_at_end d.octets d.all.read (inr (some_stored _ d.delivered _ _ d.stored (c.in_err-write.ensures.fault.memory e).1)))
+    passed_up _ _ c.from_residual-in_err-write.ensures.1 (λ e. refused_at_end d.octets d.all.read (inr (some_stored _ d.adds _ _ d.stored (c.in_err-write.ensures.fault.memory e).1)))
 
 pub returns-clause-normal_form : goal.returns-clause-normal_form
 returns-clause-normal_form g c =
     let d = c.in_ok-delivered.ensures.all in
-    translates d.all (ap (g.D.Formed.form_of c.args.managed.now) (all_stored _ d.delivered _ _ d.stored)) c.in_ok-write.ensures.written
+    translates d.all (ap (g.D.Formed.form_of c.args.managed.now) (all_stored _ d.adds _ _ d.stored)) c.in_ok-write.ensures.written
 
 pub returns-clause-totals : goal.returns-clause-totals
 returns-clause-totals g c =
     let d = c.in_ok-delivered.ensures.all in
-    record { translated = translates d.all (ap (g.D.Formed.form_of c.args.managed.now) (all_stored _ d.delivered _ _ d.stored)) c.in_ok-write.ensures.written; totals_are = d.counts }
+    record { translated = translates d.all (ap (g.D.Formed.form_of c.args.managed.now) (all_stored _ d.adds _ _ d.stored)) c.in_ok-write.ensures.written; totals_are = d.counts }
 
 pub returns-clause-packets : goal.returns-clause-packets
 returns-clause-packets g c =
@@ -35,5 +35,5 @@ returns-clause-packets g c =
       read = d.all.read;
       form = _;
       written = c.in_ok-write.ensures.written.writes;
-      same = c.write.ensures.delivers ∙ all_stored _ d.delivered _ _ d.stored;
+      same = c.write.ensures.delivers ∙ all_stored _ d.adds _ _ d.stored;
     }

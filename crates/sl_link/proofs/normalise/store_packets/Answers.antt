@@ -6,5 +6,5 @@ pub read_recording-requires-clause-begun : goal.read_recording-requires-clause-b
 read_recording-requires-clause-begun g c =
     let p = c.args.managed.now in
     let k = g.D.Delivery.kind p in
-    let laws = (g.met.D.Delivery.within _ p [] c.begin.ensures).delivered in
+    let laws = (g.met.D.Delivery.within _ p [] c.begin.ensures).adds in
     (rw c.none.ensures (none_delivered k laws c.begin.ensures), none_stored k laws _ c.new.ensures.lists)

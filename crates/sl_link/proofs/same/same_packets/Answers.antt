@@ -11,5 +11,5 @@ returns-clause-same g c =
       second = e.octets;
       first_read = d.all;
       second_read = e.all;
-      reported = same_stored k d.delivered (k.frames_of d.octets) (k.frames_of e.octets) _ _ d.stored e.stored c.has_same_packets.ensures;
+      reported = same_stored k d.adds (k.frames_of d.octets) (k.frames_of e.octets) _ _ d.stored e.stored c.has_same_packets.ensures;
     }

@@ -15,7 +15,7 @@ use Rattle.sl_link.specs.Kind.Delivery.{with_frame}
 use Rattle.sl_link.specs.Link.Managed.{Parameters, reception_of, tc_format}
 use Rattle.sl_link.specs.Pass.Tc.{is_tc_frame}
 use Rattle.sl_link.proofs.lemmas.Kind.Delivery.{views_next}
-use Rattle.sl_link.proofs.lemmas.Kind.Tc.{tc_delivered}
+use Rattle.sl_link.proofs.lemmas.Kind.Tc.{tc_adds_by_channel}
 use Rattle.sl_link.proofs.lemmas.Verbs.Check.Lines.{one_event}
 use Rattle.sl_link.proofs.lemmas.Verbs.Check.Lines as few
 
@@ -55,7 +55,7 @@ open_other p offset views (Ok view) channel other = rw (incomplete_other (recept
 
 pub few_open : (p : Parameters) (offset : ℕ) (frames : List (List ℕ)) → length (flat_map (tc_open p offset frames) (tc_kind p).channels) ≤ length frames
 few_open p offset frames =
-    few.few_open (tc_kind p) (tc_delivered p) (tc_open p offset) (λ channel. refl)
+    few.few_open (tc_kind p) (tc_adds_by_channel p) (tc_open p offset) (λ channel. refl)
     (λ before channel. one_event offset (channel / 64) (Some (channel % 64)) (codes " open") _ _)
     (λ before frame channel other. rw (views_next (as_read p) before frame) (open_other p offset (views_of (tc_format p) p.spacecraft before) (as_read p frame) channel other))
     frames

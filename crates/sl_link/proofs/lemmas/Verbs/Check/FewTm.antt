@@ -18,7 +18,7 @@ use Rattle.sl_link.specs.Pass.Tm.{is_tm_frame}
 use Rattle.sl_link.specs.Verbs.Check.Lines.{event_anomaly, event_line}
 use Rattle.sl_link.specs.Verbs.Check.Tm.{gap_anomaly, check_tm_lines, tm_open}
 use Rattle.sl_link.proofs.lemmas.Kind.Delivery.{views_next}
-use Rattle.sl_link.proofs.lemmas.Kind.Tm.{tm_delivered}
+use Rattle.sl_link.proofs.lemmas.Kind.Tm.{tm_adds_by_channel}
 use Rattle.sl_link.proofs.lemmas.Verbs.Check.Lines.{one_event}
 use Rattle.sl_link.proofs.lemmas.Verbs.Check.Lines as few
 
@@ -54,7 +54,7 @@ channel_other vc views r other = grind (arith, other_seen)
 
 pub few_open : (p : Parameters) (offset : ℕ) (frames : List (List ℕ)) → length (flat_map (tm_open p offset frames) (tm_kind p).channels) ≤ length frames
 few_open p offset frames =
-    few.few_open (tm_kind p) (tm_delivered p) (tm_open p offset) (λ vc. refl)
+    few.few_open (tm_kind p) (tm_adds_by_channel p) (tm_open p offset) (λ vc. refl)
     (λ before vc. let channel = views_on vc (views_of (tm_format p) p.spacecraft before) in simp length-map (one_is_incomplete channel))
     (λ before frame vc other. rw (views_next (as_read p) before frame, channel_other vc (views_of (tm_format p) p.spacecraft before) (as_read p frame) other) refl)
     frames

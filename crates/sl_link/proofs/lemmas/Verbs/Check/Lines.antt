@@ -10,7 +10,7 @@ use Rattle.sl_link.specs.declared.link.fault.LinkFault.{LinkFault}
 use Rattle.sl_link.specs.Io.Output.{Adds}
 use Rattle.sl_link.specs.Io.Streams.{StopsWriting}
 use Rattle.sl_link.specs.declared.link.counted.Counted.{Counted}
-use Rattle.sl_link.specs.Kind.Delivery.{AreDelivered, Kind}
+use Rattle.sl_link.specs.Kind.Delivery.{AddsByChannel, Kind}
 use Rattle.sl_link.specs.Link.Totals.{Counts}
 use Rattle.sl_link.specs.Tally.{counts_with_remainder}
 use Rattle.sl_link.specs.Verbs.Listing.{Frames, lines_from}
@@ -80,7 +80,7 @@ module _ {W : Type 0} {contents : W → Option (List ℕ)} {line : ℕ → List 
 -- ---- how many lines these are
 
 -- where a channel has at most one, and a frame changes its own channel alone
-module _ (k : Kind) (laws : AreDelivered k) (line : List (List ℕ) → ℕ → List (List ℕ)) (none : (channel : ℕ) → line [] channel ≡ [])
+module _ (k : Kind) (laws : AddsByChannel k) (line : List (List ℕ) → ℕ → List (List ℕ)) (none : (channel : ℕ) → line [] channel ≡ [])
     (one : (frames : List (List ℕ)) (channel : ℕ) → length (line frames channel) ≤ 1)
     (other : (frames : List (List ℕ)) (frame : List ℕ) (channel : ℕ) → k.channel frame ≢ channel → length (line (frames ++ frame ∷ []) channel) ≡ length (line frames channel)) where
   few_next : (frames : List (List ℕ)) (frame : List ℕ) → length (flat_map (line frames) k.channels) ≤ length frames

@@ -17,7 +17,7 @@ use Rattle.sl_tcflow.specs.AcceptedUnit as accepted
 use Rattle.sl_tcflow.specs.ReceptionParameters.{ReceptionParameters}
 use Rattle.sl_tcflow.proofs.lemmas.Reception.Channel.{small_map}
 use Rattle.sl_link.specs.declared.verbs.packets.printer.ChannelKind.{ChannelKind}
-use Rattle.sl_link.specs.Kind.Delivery.{AreDelivered, Kind, delivered_packets, packets_by_channel}
+use Rattle.sl_link.specs.Kind.Delivery.{AddsByChannel, Kind, delivered_packets, packets_by_channel}
 use Rattle.sl_link.specs.Verbs.Packets.Listed.{ListedPacket, ListsPackets, line_of, packets_listed_on, TmPacketsAreListed, TcPacketsAreListed}
 use Rattle.sl_link.specs.Verbs.Packets.Printed.{ArePrinted, channel_name, lines_on}
 use Rattle.sl_link.specs.Verbs.Listing.{lines_from, listing_text}
@@ -30,8 +30,8 @@ use Rattle.sl_link.specs.Link.Managed.{Parameters, reception_of, tc_format, tm_f
 use Rattle.sl_link.specs.Verbs.Packets.Tc.{packets_tc_lines, tc_packet_lines}
 use Rattle.sl_link.specs.Verbs.Packets.Tm.{packets_tm_lines, tm_packet_lines}
 use Rattle.sl_link.specs.Verbs.Packets.Line.{packets_listing}
-use Rattle.sl_link.proofs.lemmas.Kind.Tc.{tc_delivered}
-use Rattle.sl_link.proofs.lemmas.Kind.Tm.{tm_delivered}
+use Rattle.sl_link.proofs.lemmas.Kind.Tc.{tc_adds_by_channel}
+use Rattle.sl_link.proofs.lemmas.Kind.Tm.{tm_adds_by_channel}
 
 -- ---- channel by channel
 
@@ -70,7 +70,7 @@ module _ (k : Kind) where
     lines_are before (frame ∷ frames) =
         rw (printed before frame, lines_at kind (k.channel frame) (without_idle (k.ended before frame)), lines_are (before ++ frame ∷ []) frames, map-append, concat-append) refl
 
-  module _ (laws : AreDelivered k) where
+  module _ (laws : AddsByChannel k) where
     abbrev on : List (List ℕ) → ℕ → List (List ℕ)
     on frames channel = without_idle (k.packets frames channel)
 
@@ -115,7 +115,7 @@ pub tm_printed : (p : Parameters) → ArePrinted (tm_kind p) VirtualChannel (pac
 tm_printed p before frame = tm_lines_are (views_of (tm_format p) p.spacecraft before) (tm_deliver.as_read p frame)
 
 pub tm_packets_are_listed : TmPacketsAreListed
-tm_packets_are_listed p recording = packets_are_listed (tm_kind p) (tm_delivered p) VirtualChannel (packets_tm_lines p) (tm_printed p) recording
+tm_packets_are_listed p recording = packets_are_listed (tm_kind p) (tm_adds_by_channel p) VirtualChannel (packets_tm_lines p) (tm_printed p) recording
 
 -- ---- TC
 
@@ -127,4 +127,4 @@ pub tc_printed : (p : Parameters) → ArePrinted (tc_kind p) Map (packets_tc_lin
 tc_printed p before frame = tc_lines_are (reception_of p) (accepted.views_of (tc_format p) p.spacecraft before) (tc_deliver.as_read p frame)
 
 pub tc_packets_are_listed : TcPacketsAreListed
-tc_packets_are_listed p recording = packets_are_listed (tc_kind p) (tc_delivered p) Map (packets_tc_lines p) (tc_printed p) recording
+tc_packets_are_listed p recording = packets_are_listed (tc_kind p) (tc_adds_by_channel p) Map (packets_tc_lines p) (tc_printed p) recording

@@ -11,7 +11,7 @@ use Rattle.sl_link.specs.Link.Managed.{Parameters, reception_of, tc_format}
 use Rattle.sl_link.specs.Link.ManagedModel.{parameters_of}
 use Rattle.sl_link.specs.Normalise.Form.{channel_lists}
 use Rattle.sl_link.proofs.lemmas.Kind.Delivery.{all_stored}
-use Rattle.sl_link.proofs.lemmas.Kind.Tc.{tc_delivered}
+use Rattle.sl_link.proofs.lemmas.Kind.Tc.{tc_adds_by_channel}
 use Rattle.sl_link.proofs.lemmas.Io.Streams.{memory_weaker}
 use Rattle.sl_link.proofs.lemmas.Normalise.Form.{tc_form_delivers, tc_form_is}
 use Rattle.sl_link.proofs.normalise.ReceiverFormed.write.Goals as goal
@@ -24,7 +24,7 @@ pub new-form-requires-clause-fits : goal.new-form-requires-clause-fits
 new-form-requires-clause-fits g c =
     let p = c.args.managed.now in
     let r = c.requires in
-    let are = all_of_channels p c.args.delivered.now.lists r.1.size ∙ all_stored (tc_kind p) (tc_delivered p) ((tc_kind p).frames_of r.0) c.args.delivered.now.lists r.1 in
+    let are = all_of_channels p c.args.delivered.now.lists r.1.size ∙ all_stored (tc_kind p) (tc_adds_by_channel p) ((tc_kind p).frames_of r.0) c.args.delivered.now.lists r.1 in
     subst (λ (q : Parameters). FitsTc (tc_format q) q.plain c.args.delivered.now.lists) (sym c.managed.view_is)
     (subst (FitsTc (tc_format p) p.plain) (sym are) (recorded_lists_fit (tc_format p) p.spacecraft (reception_of p) r.0))
 

@@ -5,7 +5,7 @@ use Rattle.sl_link.proofs.lemmas.Verbs.Check.Lines.{added_all, added_next, added
 use Rattle.sl_link.proofs.verbs.check.incomplete_lines.Goals as goal
 
 pub loop-channel-init : goal.loop-channel-init
-loop-channel-init g c = (λ p frames h. added_none (g.met.D.Delivery.within _ p frames h).delivered.all, (omega arith, refl))
+loop-channel-init g c = (λ p frames h. added_none (g.met.D.Delivery.within _ p frames h).adds.all, (omega arith, refl))
 
 pub loop-channel-preserved : goal.loop-channel-preserved
 loop-channel-preserved g c =

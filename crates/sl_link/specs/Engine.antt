@@ -1,8 +1,6 @@
 -- The engines: what is done with a recording, by the kind of its frames. What an engine writes for a recording and what
 -- it counts in it, and how it stops.
 use Rattle.std.specs.Prelude.{ℕ, List, ◌≡◌, ◌≢◌, Option}
-use Rattle.sl_tcframe.specs.TcDelimited.{tc_frames_of}
-use Rattle.sl_tmframe.specs.TmDelimited.{tm_frames_of}
 use Rattle.sl_link.specs.declared.engine.RecordingKind.{RecordingKind}
 use Rattle.sl_link.specs.declared.engine.RecordingKind.TheVariants.{Tm, Tc}
 use Rattle.sl_link.specs.declared.engine.VerbName.{VerbName}
@@ -13,11 +11,13 @@ use Rattle.sl_link.specs.declared.link.fault.LinkFault.TheVariants.{Memory, Writ
 use Rattle.sl_link.specs.Io.Streams.{IsRead, TranslatesWithTotals, Stops}
 use Rattle.sl_link.specs.Kind.Tc.{IsIncompleteAtLastTc, MayRefuseStoreMemoryTc, tc_counts}
 use Rattle.sl_link.specs.Kind.Tm.{IsIncompleteAtLastTm, MayRefuseStoreMemoryTm, tm_counts}
-use Rattle.sl_link.specs.Link.Managed.{Parameters, tc_format}
+use Rattle.sl_link.specs.Link.Managed.{Parameters}
 use Rattle.sl_link.specs.Link.Totals.{Counts}
 use Rattle.sl_link.specs.Normalise.Tc.{tc_normal_form}
 use Rattle.sl_link.specs.Normalise.Tm.{tm_normal_form}
 use Rattle.sl_link.specs.Pass.{chunk_size}
+use Rattle.sl_link.specs.Pass.Tc.{tc_frames}
+use Rattle.sl_link.specs.Pass.Tm.{tm_frames}
 use Rattle.sl_link.specs.Verbs.Check.Tc.{check_tc_text, check_tc_counts}
 use Rattle.sl_link.specs.Verbs.Check.Tm.{check_tm_text, check_tm_counts}
 use Rattle.sl_link.specs.Verbs.Packets.Tc.{packets_tc_text}
@@ -51,8 +51,8 @@ engine_counts verb Tc = tc_counts
 
 -- the frames that a recording is divided into
 abbrev pub engine_frames : RecordingKind → Parameters → List ℕ → List (List ℕ)
-engine_frames Tm managed = tm_frames_of managed.tm_length
-engine_frames Tc managed = tc_frames_of (tc_format managed)
+engine_frames Tm = tm_frames
+engine_frames Tc = tc_frames
 
 -- Memory may be refused to the engine at the last of these frames: to `show` never, to `check` and `packets` for what
 -- is incomplete, to `normalise` for stored packets too.

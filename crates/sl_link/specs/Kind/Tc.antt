@@ -15,6 +15,7 @@ use Rattle.sl_tcflow.specs.Recording.{map_channels, packets_of_channel, tc_lists
 use Rattle.sl_link.specs.Kind.Delivery.{IsWithin, Kind, MayRefuseStoreMemory, count_of, counts_in, number_of_idle, number_of_packets}
 use Rattle.sl_link.specs.Link.Managed.{Parameters, reception_of, tc_format}
 use Rattle.sl_link.specs.Link.Totals.{Counts}
+use Rattle.sl_link.specs.Pass.Tc.{tc_frames}
 use Rattle.sl_link.specs.Tally.{listing_counts}
 
 -- a frame of a recording, as it is read
@@ -75,7 +76,7 @@ tc_found p before frame = found_after (reception_of p) (views_of (tc_format p) p
 abbrev pub tc_kind : Parameters → Kind
 tc_kind p =
     record {
-      frames_of = tc_frames_of (tc_format p);
+      frames_of = tc_frames p;
       is_skipped = λ frame. is_err (as_read p frame);
       channels = map_channels;
       channel_limit = channel_count;

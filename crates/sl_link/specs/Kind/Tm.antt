@@ -10,6 +10,7 @@ use Rattle.sl_tmflow.specs.Recording.{packets_of_channel, tm_lists, virtual_chan
 use Rattle.sl_link.specs.Kind.Delivery.{IsWithin, Kind, MayRefuseStoreMemory, counts_in}
 use Rattle.sl_link.specs.Link.Managed.{Parameters, tm_format}
 use Rattle.sl_link.specs.Link.Totals.{Counts}
+use Rattle.sl_link.specs.Pass.Tm.{tm_frames}
 use Rattle.sl_link.specs.Tally.{listing_counts}
 
 -- a frame of a recording, as it is read
@@ -65,7 +66,7 @@ tm_found p before frame = found_after (views_of (tm_format p) p.spacecraft befor
 abbrev pub tm_kind : Parameters → Kind
 tm_kind p =
     record {
-      frames_of = tm_frames_of p.tm_length;
+      frames_of = tm_frames p;
       is_skipped = λ frame. is_err (as_read p frame);
       channels = virtual_channels;
       channel_limit = 8;

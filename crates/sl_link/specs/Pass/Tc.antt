@@ -12,7 +12,7 @@ use Rattle.sl_link.specs.Link.Managed.{Parameters, tc_format}
 abbrev pub is_tc_frame : Parameters → List ℕ → Type 0
 is_tc_frame p frame = is_cut (tc_format p) frame ≡ true
 
--- the frames of a recording
+-- the frames of a recording, for framers, kinds and engines; texts and counts cite `tc_frames_of`, which says the same
 abbrev pub tc_frames : Parameters → List ℕ → List (List ℕ)
 tc_frames p recording = tc_frames_of (tc_format p) recording
 

@@ -6,7 +6,7 @@ use Rattle.sl_link.specs.Kind.Tc.{tc_packets}
 use Rattle.sl_link.specs.Kind.Tm.{tm_packets}
 use Rattle.sl_link.specs.Verbs.Packets.Line.{packet_line}
 use Rattle.sl_link.specs.Verbs.Packets.Tc.{packets_tc_text, tc_channel_name}
-use Rattle.sl_link.specs.Verbs.Packets.Tm.{packets_tm_text, tm_channel_text}
+use Rattle.sl_link.specs.Verbs.Packets.Tm.{packets_tm_text, tm_channel_name}
 
 -- a packet that a listing has a line for, and the number of its channel
 pub record ListedPacket : Type 0 where
@@ -35,7 +35,7 @@ pub record ListsPackets (name : ℕ → List ℕ) (lists : List (List (List ℕ)
 -- the packets that the recording delivers there, in their order, idle ones left out.
 abbrev pub TmPacketsAreListed : Type 0
 TmPacketsAreListed = (p : Parameters) (recording : List ℕ)
-    → ListsPackets tm_channel_text (tm_packets p recording) (packets_tm_text p recording)
+    → ListsPackets tm_channel_name (tm_packets p recording) (packets_tm_text p recording)
 
 -- The same of a TC recording, on each virtual channel and MAP, whose channel has one number.
 abbrev pub TcPacketsAreListed : Type 0

@@ -4,14 +4,14 @@ use Rattle.std.specs.List.{concat}
 use Rattle.sl_packet.specs.Packets.{without_idle}
 use Rattle.sl_link.specs.declared.verbs.packets.printer.ChannelKind.{ChannelKind}
 use Rattle.sl_link.specs.declared.verbs.packets.printer.ChannelKind.TheVariants.{VirtualChannel, Map}
-use Rattle.sl_link.specs.Verbs.Packets.Tm.{tm_channel_text}
+use Rattle.sl_link.specs.Verbs.Packets.Tm.{tm_channel_name}
 use Rattle.sl_link.specs.Verbs.Packets.Tc.{tc_channel_name}
 use Rattle.sl_link.specs.Kind.Delivery.{Kind}
 use Rattle.sl_link.specs.Verbs.Packets.Line.{packet_line}
 
 -- a channel by its number: a virtual channel, or virtual channel v and MAP m, whose number is 64 v + m
 abbrev pub channel_name : ChannelKind → ℕ → List ℕ
-channel_name VirtualChannel = tm_channel_text
+channel_name VirtualChannel = tm_channel_name
 channel_name Map = tc_channel_name
 
 -- the lines of packets on a channel

@@ -14,13 +14,13 @@ use Rattle.sl_link.specs.Verbs.Packets.Line.{packet_line, packets_listing}
 use Rattle.sl_link.specs.Verbs.Listing.{Listing, listing_text}
 
 -- a virtual channel
-abbrev pub tm_channel_text : ℕ → List ℕ
-tm_channel_text vc = codes "vc " ++ decimal vc
+abbrev pub tm_channel_name : ℕ → List ℕ
+tm_channel_name vc = codes "vc " ++ decimal vc
 
 -- the lines of the packets that end in a frame, as it is read, after the frames `views`
 abbrev pub tm_packet_lines : List TmView → Result TmView TmSkip → List ℕ
 tm_packet_lines views (Ok view) =
-    concat (map (packet_line (tm_channel_text view.vc)) (without_idle (ended_by views view)))
+    concat (map (packet_line (tm_channel_name view.vc)) (without_idle (ended_by views view)))
 tm_packet_lines views (Err reason) = []
 
 -- the same of a frame that comes after `before`

@@ -26,7 +26,7 @@ pub trait Printed: Delivery {
     ghost lines: { Parameters → List (List ℕ) → List ℕ → List ℕ };
 
     /// How a line names the channel of its packet.
-    fn channel_kind(&self) -> ChannelKind
+    fn channel_kind() -> ChannelKind
         ensures { (p : Parameters) → ArePrinted (Self.kind p) result (lines p) };
 }
 
@@ -36,7 +36,7 @@ impl Printed for Extractor {
     ghost lines = { packets_tm_lines };
 
     #[tactic(auto, using(crate::proofs::lemmas::Verbs::Packets::Listed::tm_printed))]
-    fn channel_kind(&self) -> ChannelKind {
+    fn channel_kind() -> ChannelKind {
         ChannelKind::VirtualChannel
     }
 }
@@ -47,7 +47,7 @@ impl Printed for Receiver {
     ghost lines = { packets_tc_lines };
 
     #[tactic(auto, using(crate::proofs::lemmas::Verbs::Packets::Listed::tc_printed))]
-    fn channel_kind(&self) -> ChannelKind {
+    fn channel_kind() -> ChannelKind {
         ChannelKind::Map
     }
 }
@@ -88,7 +88,7 @@ impl<D: Printed> Verb for Packets<D> {
     fn frame<W: Write>(&mut self, managed: &Managed, frame: &[u8], out: &mut Output<W>) -> Written {
         let mut printer = Printer {
             out,
-            kind: self.delivery.channel_kind(),
+            kind: D::channel_kind(),
             failures: 0,
         };
         let (report, _) = self.delivery.deliver(managed, frame, &mut printer)?;

@@ -173,7 +173,8 @@ impl Delivery for Extractor {
         };
         // A `match`, here and below: at this exit several clauses are owed for each list of earlier
         // frames. With `?` each would want an answer that it hands on the same fault, as callers of
-        // `deliver` have it (`passed_up`); with `match` none does.
+        // `deliver` have it (lemma `passed_up` of proofs/lemmas/Link/Answers.antt); with `match`
+        // none does.
         let step = match self.frame(&view, sink) {
             Ok(step) => step,
             Err(fault) => return Err(fault),
@@ -264,10 +265,10 @@ fn is_opaque(field: TmField) -> bool
 }
 
 // N(S), in a frame of type AD.
-fn content_ns(unit: TcContent) -> Option<u8>
-    ensures { result ≡ content_ns (content unit.entry) }
+fn content_ns(carried: TcContent) -> Option<u8>
+    ensures { result ≡ content_ns (content carried.entry) }
 {
-    match unit {
+    match carried {
         TcContent::Ad { ns, .. } => Some(ns),
         TcContent::Bd { .. } | TcContent::Unlock | TcContent::SetVr(_) => None,
     }

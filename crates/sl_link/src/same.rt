@@ -136,10 +136,12 @@ fn same_packets<D: Delivery, F: Framer + Drop, A: Read, B: Read>(
     Ok(stored.has_same_packets(&others))
 }
 
-/// Reports the same of two recordings of TM transfer frames in memory. The fault is `TooLong` where
-/// a recording has more octets than the managed limit, and else `Memory`, where memory was refused.
-/// Memory is refused only where a packet is incomplete on the virtual channel of a frame, before
-/// the frame or after it, or where a packet was delivered.
+/// Reports whether two recordings of TM transfer frames in memory deliver the same packets on each
+/// virtual channel, idle packets left out.
+///
+/// The fault is `TooLong` where a recording has more octets than the managed limit, and else
+/// `Memory`, where memory was refused. Memory is refused only where a packet is incomplete on the
+/// virtual channel of a frame, before the frame or after it, or where a packet was delivered.
 pub fn same_packets_in_memory_tm(
     alloc: Global,
     managed: &Managed,
@@ -160,10 +162,13 @@ pub fn same_packets_in_memory_tm(
     same_packets_in_memory::<Extractor, TmFramer>(alloc, managed, framers, one, other)
 }
 
-/// Reports the same of two recordings of TC transfer frames in memory. The fault is `TooLong` where
-/// a recording has more octets than the managed limit, and else `Memory`, where memory was refused.
-/// Memory is refused only where the unit of a frame is accepted and a series is incomplete on its
-/// MAP, before the frame or after it, or where a packet was delivered.
+/// Reports whether FARM-1 lets the same packets of two recordings of TC transfer frames in memory
+/// through on each virtual channel and MAP, idle packets left out.
+///
+/// The fault is `TooLong` where a recording has more octets than the managed limit, and else
+/// `Memory`, where memory was refused. Memory is refused only where the unit of a frame is accepted
+/// and a series is incomplete on its MAP, before the frame or after it, or where a packet was
+/// delivered.
 pub fn same_packets_in_memory_tc(
     alloc: Global,
     managed: &Managed,

@@ -1,4 +1,6 @@
--- A `TmFound` and a `TcFound` stand for what is found of a frame, field by field.
+-- A `TmFound` and a `TcFound` stand for what is found of a frame, field by field. No other crate can name these types,
+-- and the definitions that public contracts rest on name none that is private: so they name the records `TmFinding` and
+-- `TcFinding`, the models.
 use Rattle.sl_link.specs.Kind.Tc.{TcFinding}
 use Rattle.sl_link.specs.Kind.Tm.{TmFinding}
 use Rattle.sl_link.specs.declared.kind.TcFound.TheInside as tc

@@ -26,7 +26,8 @@ pub record TcWaits (f : TcFraming) (p : Parameters) (rest : List ℕ) : Type 0 w
   pub rest_is : rest ≡ f.rest ++ more
   pub later : (more ≡ []) ⊎ IsStuck f
 
--- ---- Two proofs, which the `Framer` of TC frames hands to its callers: they are members of its `impl`.
+-- ---- Two proofs, which the `Framer` of TC frames hands to its callers: they are members of its `impl`. Of its own
+-- crate an `impl` cites only what stands in `specs`.
 
 -- a frame at the front is the first one
 pub tc_front_is_first : (p : Parameters) (frame more : List ℕ) → is_tc_frame p frame

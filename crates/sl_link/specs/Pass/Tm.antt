@@ -21,7 +21,8 @@ pub record TmWaits (f : TmFraming) (p : Parameters) (rest : List ℕ) : Type 0 w
   pub rest_is : f.rest ≡ rest
   pub short : length rest < p.tm_length
 
--- ---- Two proofs, which the `Framer` of TM frames hands to its callers: they are members of its `impl`.
+-- ---- Two proofs, which the `Framer` of TM frames hands to its callers: they are members of its `impl`. Of its own
+-- crate an `impl` cites only what stands in `specs`.
 
 -- a frame at the front is the first one
 pub tm_front_is_first : (p : Parameters) (frame more : List ℕ) → is_tm_frame p frame

@@ -259,7 +259,8 @@ fn flag<'a>(alloc: Global, name: &'a str, help: &'a str) -> Arg<'a>
         .action(ArgAction::SetTrue)
 }
 
-// What a verb with these arguments asks for.
+// What a verb with these arguments asks for. The parameters of `managed_in` have the V(R) of `--vr`
+// on each virtual channel, as `Managed::new` wants one; `with_vcs` puts `starts` in its place.
 fn asked_of(verb: &str, matches: &ArgMatches<'_>) -> Asked
     ensures { Asks verb.now (rows_of (found_of matches.now)) result }
 {

@@ -62,7 +62,7 @@ abbrev pub tc_frame_text : List ℕ → (ℕ → FarmView) → Result TcView TcS
 tc_frame_text plain farms (Ok view) = tc_view_text (has_vc plain view.vc) (farms view.vc) view
 tc_frame_text plain farms (Err reason) = codes " skip " ++ tc_skip_word reason
 
--- FARM-1 of a virtual channel after frames
+-- FARM-1 of a virtual channel before the frame that comes after the frames `before`
 abbrev pub farm_before : Parameters → List (List ℕ) → ℕ → FarmView
 farm_before p before vc = farm_of (reception_of p) vc (views_of (tc_format p) p.spacecraft before)
 

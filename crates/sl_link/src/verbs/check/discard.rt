@@ -1,6 +1,4 @@
 //! A sink that accepts packets and keeps none.
-ghost use Rattle.std.specs.Prelude.{⊤};
-
 use sl_packet::{PacketSink, SinkFault};
 
 /// Accepts each packet.

@@ -11,7 +11,8 @@ use crate::io::lines::Lines;
 use crate::io::words::push_remainder;
 use crate::link::totals::Totals;
 
-/// Where an anomaly is: at a frame, on a virtual channel, and in a TC recording on a MAP.
+/// Where an anomaly is: at a frame, or for `open` at the recording's end; on a virtual channel, and
+/// in a TC recording on a MAP. Both are `u32` as octets are: `push_some` adds a MAP or octets.
 #[derive(Clone, Copy)]
 pub struct Place {
     pub offset: u64,

@@ -19,9 +19,9 @@ use sl_fields::{SegmentHeader, front};
 use sl_tcflow::Farms;
 use sl_tcframe::{TcContent, TcFrame, TcSkip, VcSet};
 
-/// Adds the line of a frame, but for its offset. FARM-1 of its virtual channel takes the frame
-/// first, unless it is skipped. The frames of the virtual channels of `plain` have no segment
-/// headers.
+/// Adds the line of a frame, but for its offset. FARM-1 of its virtual channel takes the frame,
+/// unless it is skipped; verdict and CLCW are those after it. The frames of the virtual channels of
+/// `plain` have no segment headers.
 pub fn tc_frame_line(
     lines: &mut Lines,
     plain: &VcSet,

@@ -17,5 +17,5 @@ pub mod PacketHeader
 pub mod PacketHeaderModel
 pub mod Clcw
 pub mod ClcwModel
-pub mod Shape
+pub mod Bounds
 pub mod NeverFall

@@ -18,7 +18,7 @@ pub use Rattle.sl_fields.specs.Fecf
 pub use Rattle.sl_fields.specs.FecfField
 pub use Rattle.sl_fields.specs.Field
 pub use Rattle.sl_fields.specs.PacketHeader
-pub use Rattle.sl_fields.specs.Shape
+pub use Rattle.sl_fields.specs.Bounds
 pub use Rattle.sl_fields.specs.SegmentHeader
 pub use Rattle.sl_fields.specs.TcHeader
 pub use Rattle.sl_fields.specs.TmHeader

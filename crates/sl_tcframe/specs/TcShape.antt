@@ -1,6 +1,6 @@
 -- The managed formats that TC transfer frames may have.
 use Rattle.std.specs.Prelude.{if◌then◌else◌, Result, Ok, Err}
-use Rattle.sl_fields.specs.Shape.{is_outside}
+use Rattle.sl_fields.specs.Bounds.{is_outside}
 use Rattle.sl_fields.specs.declared.shape_fault.ShapeFault.{ShapeFault}
 use Rattle.sl_fields.specs.declared.shape_fault.ShapeFault.TheVariants.{TcLength}
 use Rattle.sl_tcframe.specs.TcFrame.{TcFormat}

@@ -9,5 +9,5 @@ pub mod TmShapeModel
 pub use Rattle.sl_fields.specs.Fecf
 pub use Rattle.sl_fields.specs.FecfField
 pub use Rattle.sl_fields.specs.Field
-pub use Rattle.sl_fields.specs.Shape
+pub use Rattle.sl_fields.specs.Bounds
 pub use Rattle.sl_fields.specs.TmHeader

@@ -2,7 +2,7 @@
 -- the `TmFormat` of TmFrame.antt: these are two names for one thing. `field_room_of`, which is the
 -- room of a `TmShape`, is in PacketFrame.antt.
 use Rattle.std.specs.Prelude.{if◌then◌else◌, Result, Ok, Err}
-use Rattle.sl_fields.specs.Shape.{is_outside}
+use Rattle.sl_fields.specs.Bounds.{is_outside}
 use Rattle.sl_fields.specs.declared.shape_fault.ShapeFault.{ShapeFault}
 use Rattle.sl_fields.specs.declared.shape_fault.ShapeFault.TheVariants.{TmLength}
 use Rattle.sl_tmframe.specs.TmFrame.{TmFormat}

@@ -3,7 +3,7 @@ use Rattle.std.specs.Prelude.{◌≡◌, ℕ, ◌%◌, ◌==◌, nat_lt, Bool, n
 use Rattle.sl_cop.specs.Starts.{AreStarts}
 use Rattle.sl_link.specs.declared.link.managed.ManagedFault.{ManagedFault}
 use Rattle.sl_link.specs.declared.link.managed.ManagedFault.TheVariants.{Spacecraft, TmLength, TcLength, Window, Limit}
-use Rattle.sl_fields.specs.Shape.{is_outside}
+use Rattle.sl_fields.specs.Bounds.{is_outside}
 use Rattle.sl_tcframe.specs.TcFrame.{TcFormat}
 use Rattle.sl_tmframe.specs.TmFrame.{TmFormat}
 use Rattle.sl_tcflow.specs.ReceptionParameters.{ReceptionParameters}

@@ -42,7 +42,7 @@ impl TmFramer {
         ensures { result ≡ at_start shape.now.len }
     {
         TmFramer {
-            len: shape.len(),
+            len: shape.len,
             held: 0,
             buffer: ArrayVec::from([0; 2048]),
         }

@@ -3,7 +3,7 @@ ghost use Rattle.std.specs.Prelude.{◌≡◌, ◌++◌, ◌∷◌, [], ℕ, Lis
 ghost use Rattle.sl_link.specs.Kind.Tc.{content_ns};
 ghost use Rattle.sl_link.specs.Kind.Tm.{is_opaque};
 ghost use Rattle.sl_tcframe.specs.TcContent.{content};
-ghost use Rattle.sl_tmframe.specs.TmField.{data_field};
+ghost use Rattle.sl_tmframe.specs.TmField.{as_content};
 ghost use Rattle.sl_packet.specs.Packets.{without_idle};
 ghost use Rattle.sl_packet.specs.Stopping.{IsStopped};
 ghost use Rattle.sl_link.specs.Kind.Delivery.{Delivers};
@@ -256,7 +256,7 @@ impl Delivery for Receiver {
 // Whether a frame is opaque. The clause cites the definition of the same name; `entry` is the
 // argument as it comes.
 fn is_opaque(field: TmField) -> bool
-    ensures { result ≡ is_opaque (data_field field.entry) }
+    ensures { result ≡ is_opaque (as_content field.entry) }
 {
     match field {
         TmField::Packets { .. } | TmField::Idle => false,

@@ -3,7 +3,7 @@ ghost use Rattle.std.specs.Prelude.{◌≡◌, ◌≢◌, ◌⊎◌, ◌≤◌, 
 ghost use Rattle.sl_packet.specs.Front.{front, is_foreign};
 ghost use Rattle.sl_packet.specs.Packets.{packets_of, rest_of};
 ghost use Rattle.sl_packet.specs.Stopping.{HandsOver};
-ghost use Rattle.sl_tmframe.specs.TmField.{data_field};
+ghost use Rattle.sl_tmframe.specs.TmField.{as_content};
 ghost use Rattle.sl_tmframe.specs.TmFrame.{IsFieldInRange, Packets, longest_field};
 ghost use Rattle.sl_tmflow.specs.Anomaly.{gap_after};
 ghost use Rattle.sl_tmflow.specs.Channel.{foreign_in, held_after, incomplete_in, is_after};
@@ -241,21 +241,21 @@ impl Channel {
         sink: &mut S,
     ) -> Result<TmStep, FlowFault>
         requires vc { vc ≤ 7 }
-        requires inside { IsFieldInRange (data_field field.now) }
+        requires inside { IsFieldInRange (as_content field.now) }
         // A packet that is incomplete at the end of the field is kept, and memory is refused only
         // where there is such a packet.
         ensures count { self.new.state.count ≡ self.old.state.count }
         ensures held { OnOk result
-            (self.new.state.held ≡ held_after (data_field field.now) self.old.state.held) }
+            (self.new.state.held ≡ held_after (as_content field.now) self.old.state.held) }
         ensures memory { IfErr result (λ flow. flow ≡ FlowFault.Memory
-            → held_after (data_field field.now) self.old.state.held ≢ []) }
+            → held_after (as_content field.now) self.old.state.held ≢ []) }
 
         // The sink is handed the packets that lie whole in the field. Octets of another packet
         // version after these packets are reported.
         ensures hands_over { HandsOver S.taking S.failing S.failures counts_of
-            sink.old vc (whole_packets (data_field field.now)) result sink.new }
+            sink.old vc (whole_packets (as_content field.now)) result sink.new }
         ensures few { IfOk result (λ step. step.packets + step.idle ≤ longest_field) }
-        ensures foreign { IfOk result (λ step. step.foreign ≡ foreign_in (data_field field.now)) }
+        ensures foreign { IfOk result (λ step. step.foreign ≡ foreign_in (as_content field.now)) }
     {
         match *field {
             TmField::Packets {

@@ -9,7 +9,7 @@ use Rattle.sl_fields.proofs.HeaderLayout.{reads_back}
 use Rattle.sl_fields.proofs.Octets.{length-octets_of}
 use Rattle.sl_fields.proofs.Packing.{packed_lt}
 use Rattle.sl_fields.proofs.TmHeaderLemmas.{tm_layout}
-use Rattle.sl_tmframe.specs.TmFrame.{TmFormat, TmParts, TmView, DataField, Packets, tm_header_of, tm_parts_of, skip_reason, class_of, view_of, read_as, tm_frame}
+use Rattle.sl_tmframe.specs.TmFrame.{TmFormat, TmParts, TmView, DataField, Packets, tm_header_of, tm_parts_of, skip_reason, content_of_field, view_of, read_as, tm_frame}
 use Rattle.sl_tmframe.specs.PacketFrame.{FitFrame, field_room_of, pointer_value, packet_frame, packet_view}
 use Rattle.sl_tmframe.specs.declared.tm_frame.TmSkip.{TmSkip}
 use Rattle.sl_tmframe.specs.declared.tm_frame.TmSkip.TheVariants.{Fecf, Version, Spacecraft}
@@ -39,7 +39,7 @@ pointer_lt (Some first) room most inside = omega arith
 -- the pointer is read as it was written
 class_is : (spacecraft vc mc vcc : ℕ) (first : Option ℕ) (field : List ℕ) (room : ℕ)
     → room ≤ 2042 → length field ≡ room → IfSome first (λ offset. offset < room)
-    → class_of (packets_header spacecraft vc mc vcc (pointer_value first)) field ≡ Packets first field
+    → content_of_field (packets_header spacecraft vc mc vcc (pointer_value first)) field ≡ Packets first field
 class_is spacecraft vc mc vcc None field room most fills inside = refl
 class_is spacecraft vc mc vcc (Some first) field room most fills inside =
     rw (ne_eqb first 2046 (λ e. omega arith), ne_eqb first 2047 (λ e. omega arith), lt-ltb first (length field) (omega arith)) refl
@@ -56,7 +56,7 @@ shown_by h p =
       mc_count = h.mc;
       vc_count = h.vcc;
       control = if h.control then Some p.control else None;
-      field = class_of h p.field;
+      field = content_of_field h p.field;
     }
 
 module _ (format : TmFormat) (spacecraft vc mc vcc : ℕ) (first : Option ℕ) (field : List ℕ) (fit : FitFrame format spacecraft vc mc vcc first field) where

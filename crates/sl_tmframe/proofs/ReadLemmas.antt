@@ -9,7 +9,7 @@ use Rattle.sl_fields.specs.Field.{number_of}
 use Rattle.sl_fields.specs.TmHeader.{TmFields, tm_header}
 use Rattle.sl_tmframe.specs.declared.tm_frame.TmSkip.{TmSkip}
 use Rattle.sl_tmframe.specs.declared.tm_frame.TmSkip.TheVariants.{Fecf, Version, Spacecraft}
-use Rattle.sl_tmframe.specs.TmFrame.{TmFormat, TmParts, ArePartsOf, HasReason, order_of, DataField, Packets, Idle, Opaque, IsOffset, PointsTo, HasClass, TmView, ShowsControl, Shows, AreReadAs, EachIsRead, IsReadOnce, tm_parts_of, skip_reason, class_of, view_of, read_as, tm_frame}
+use Rattle.sl_tmframe.specs.TmFrame.{TmFormat, TmParts, ArePartsOf, HasReason, order_of, DataField, Packets, Idle, Opaque, IsOffset, PointsTo, HasClass, TmView, ShowsControl, Shows, AreReadAs, EachIsRead, IsReadOnce, tm_parts_of, skip_reason, content_of_field, view_of, read_as, tm_frame}
 use Rattle.sl_tmframe.proofs.PartLemmas.{has_parts, parts_once}
 use Rattle.sl_fields.proofs.Tells.{Tells, tells_other}
 
@@ -95,7 +95,7 @@ header_with secondary sync first h =
     }
 
 class_found : (secondary sync : Bool) (first : ℕ) (h : TmFields) (field : List ℕ)
-    → HasClass (header_with secondary sync first h) field (class_of (header_with secondary sync first h) field)
+    → HasClass (header_with secondary sync first h) field (content_of_field (header_with secondary sync first h) field)
 class_found true sync first h field = inl refl
 class_found false true first h field = inr (inl refl)
 class_found false false first h field =
@@ -112,7 +112,7 @@ class_found false false first h field =
           ]
     ]
 
-has_class : (h : TmFields) (field : List ℕ) → HasClass h field (class_of h field)
+has_class : (h : TmFields) (field : List ℕ) → HasClass h field (content_of_field h field)
 has_class h field = class_found h.secondary h.sync h.first h field
 
 -- a frame that isn't opaque by its flags, with a pointer before the end, isn't opaque at all

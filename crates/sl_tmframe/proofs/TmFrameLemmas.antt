@@ -4,7 +4,7 @@ use Rattle.std.proofs.lemmas.List.{drop-drop, drop-take, take-take}
 use Rattle.sl_fields.specs.FecfField.{fecf_len}
 use Rattle.sl_fields.specs.TmHeader.{TmFields}
 use Rattle.sl_fields.proofs.FecfLemmas.{fecf_len_le}
-use Rattle.sl_tmframe.specs.TmFrame.{TmFormat, TmView, DataField, tm_header_of, class_of, view_of, skip_reason, read_as, tm_frame}
+use Rattle.sl_tmframe.specs.TmFrame.{TmFormat, TmView, DataField, tm_header_of, content_of_field, view_of, skip_reason, read_as, tm_frame}
 
 -- In the lemmas on where parts lie, a frame ends with a frame error control field of `fecf_size` octets. `between` are
 -- the octets between it and the primary header, and end with an operational control field of `control_size` octets.
@@ -47,7 +47,7 @@ view_with format frame h =
       mc_count = h.mc;
       vc_count = h.vcc;
       control = if h.control then Some (take control_size (drop (6 + field_size) frame)) else None;
-      field = class_of h (take field_size (drop 6 frame));
+      field = content_of_field h (take field_size (drop 6 frame));
     }
 
 -- the parts that the code takes give the frame's view
@@ -58,11 +58,11 @@ pub read_parts : (format : TmFormat) (spacecraft : ℕ) (frame between field : L
     → between ≡ take (length (drop 6 frame) - fecf_len format.fecf) (drop 6 frame)
     → field ≡ take (length between - (if h.control then 4 else 0)) between
     → control ≡ (if h.control then Some (drop (length between - 4) between) else None)
-    → class ≡ class_of h field
+    → class ≡ content_of_field h field
     → Ok (record { vc = h.vc; mc_count = h.mc; vc_count = h.vcc; control = control; field = class }) ≡ tm_frame format spacecraft frame
 read_parts format spacecraft frame between field h control class long_enough kept header between_by field_by control_by class_by =
     let fecf_fits : fecf_len format.fecf ≤ 2 = fecf_len_le format.fecf in
-    let carried = class_by ∙ ap (class_of h) (field_by ∙ field_lies frame between (fecf_len format.fecf) (if h.control then 4 else 0) between_by) in
+    let carried = class_by ∙ ap (content_of_field h) (field_by ∙ field_lies frame between (fecf_len format.fecf) (if h.control then 4 else 0) between_by) in
     let operational = control_by ∙ control_lies h.control frame between (fecf_len format.fecf) (omega arith) between_by in
     let shown : record { vc = h.vc; mc_count = h.mc; vc_count = h.vcc; control = control; field = class } ≡ view_with format frame h = rw (carried, operational) refl in
     ap Ok (shown ∙ ap (view_with format frame) header) ∙ ap (λ reason. read_as reason (view_of format frame)) (sym kept)

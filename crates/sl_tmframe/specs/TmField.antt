@@ -4,7 +4,7 @@ use Rattle.sl_tmframe.specs.TmFrame as spec
 use Rattle.sl_tmframe.specs.declared.tm_frame.TmField.{TmField}
 use Rattle.sl_tmframe.specs.declared.tm_frame.TmField.TheVariants.{Packets, Idle, Opaque}
 
-abbrev pub data_field : TmField → DataField
-data_field (Packets first octets) = spec.Packets first octets.now
-data_field Idle = spec.Idle
-data_field Opaque = spec.Opaque
+abbrev pub as_content : TmField → DataField
+as_content (Packets first octets) = spec.Packets first octets.now
+as_content Idle = spec.Idle
+as_content Opaque = spec.Opaque

@@ -167,8 +167,8 @@ is_opaque header field =
     || (not (header.first == 2046) && not (header.first == 2047) && not (nat_lt header.first (length field)))
 
 -- the content of a data field, by its class in a frame with this header
-abbrev pub class_of : TmFields → List ℕ → DataField
-class_of header field =
+abbrev pub content_of_field : TmFields → List ℕ → DataField
+content_of_field header field =
     if is_opaque header field then Opaque
     else if header.first == 2046 then Idle
     else if header.first == 2047 then Packets None field
@@ -186,7 +186,7 @@ view_of format frame =
       mc_count = (tm_header_of frame).mc;
       vc_count = (tm_header_of frame).vcc;
       control = control_of format frame;
-      field = class_of (tm_header_of frame) (tm_parts_of format frame).field;
+      field = content_of_field (tm_header_of frame) (tm_parts_of format frame).field;
     }
 
 -- the reason to skip the frame, if there is one, and otherwise its view

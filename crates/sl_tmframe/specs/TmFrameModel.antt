@@ -1,7 +1,7 @@
 -- A `TmFrame` stands for the view that a reader has of the frame. The virtual channel and the data
 -- field of this view are in range.
 use Rattle.sl_tmframe.specs.TmFrame.{TmView, IsInRange}
-use Rattle.sl_tmframe.specs.TmField.{data_field}
+use Rattle.sl_tmframe.specs.TmField.{as_content}
 use Rattle.sl_tmframe.specs.declared.tm_frame.TmFrame.TheInside.{Inside}
 
 -- the view, by the fields of a `TmFrame`; `view_of` is the view by a frame's octets
@@ -12,7 +12,7 @@ frame_view_of f =
       mc_count = f.header.mc;
       vc_count = f.header.vcc;
       control = f.control;
-      field = data_field f.field;
+      field = as_content f.field;
     }
 
 -- the view is in range

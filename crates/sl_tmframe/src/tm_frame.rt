@@ -1,9 +1,9 @@
 //! The TM transfer frame, as it is read.
 ghost use Rattle.std.specs.Prelude.{◌≡◌, ◌-◌, ◌<◌, ◌≤◌, length, take, drop, if◌then◌else◌, Some};
 ghost use Rattle.std.specs.Prelude.{None};
-ghost use Rattle.sl_tmframe.specs.TmFrame.{tm_header_of, class_of, longest_field, skip_reason};
-ghost use Rattle.sl_tmframe.specs.TmFrame.{IsFieldInRange};
-ghost use Rattle.sl_tmframe.specs.TmField.{data_field};
+ghost use Rattle.sl_tmframe.specs.TmFrame.{tm_header_of, content_of_field, longest_field};
+ghost use Rattle.sl_tmframe.specs.TmFrame.{IsFieldInRange, skip_reason};
+ghost use Rattle.sl_tmframe.specs.TmField.{as_content};
 
 use crate::tm_shape::TmShape;
 use sl_fields::{TmHeader, back, fecf_good, front, without_fecf};
@@ -126,12 +126,11 @@ impl<'a> TmFrame<'a> {
     }
 
     /// The content of the frame. The offset of the first packet start, if there is one, is below
-    /// the length of the data field, and this length is at most 2042. In the clauses the function
-    /// `data_field` (specs/TmField.antt) takes a [`TmField`] to the `DataField` of
-    /// specs/TmFrame.antt.
+    /// the length of the data field, and this length is at most 2042. In the clauses `as_content`
+    /// takes the content to a `DataField`.
     pub fn field(&self) -> TmField<'a>
-        ensures value { data_field result ≡ self.now.field }
-        ensures inside { IsFieldInRange (data_field result) }
+        ensures value { as_content result ≡ self.now.field }
+        ensures inside { IsFieldInRange (as_content result) }
     {
         self.field
     }
@@ -189,8 +188,8 @@ fn split_control<'a>(header: &TmHeader, between: &'a [u8]) -> (&'a [u8], Option<
 #[inline(always)]
 fn content_under<'a>(header: &TmHeader, field: &'a [u8]) -> TmField<'a>
     requires { length field.now ≤ longest_field }
-    ensures class { data_field result ≡ class_of header.now field.now }
-    ensures inside { IsFieldInRange (data_field result) }
+    ensures class { as_content result ≡ content_of_field header.now field.now }
+    ensures inside { IsFieldInRange (as_content result) }
 {
     if header.secondary() || header.sync() {
         return TmField::Opaque;

@@ -1,6 +1,6 @@
 //! The lines of a TM recording's listing.
 ghost use Rattle.std.specs.Prelude.{◌≡◌, ◌+◌, ◌≤◌, ◌++◌, codes, length};
-ghost use Rattle.sl_tmframe.specs.TmField.{data_field};
+ghost use Rattle.sl_tmframe.specs.TmField.{as_content};
 ghost use Rattle.sl_link.specs.Verbs.Show.Tm.{clcw_fields_text, word_text, control_text, field_text, frame_counts_text, tm_view_text, tm_frame_text};
 ghost use Rattle.sl_link.specs.Io.Lines.{HasRoomFor, fields_width, part_width, text_width, words_width};
 
@@ -47,7 +47,7 @@ fn push_frame_counts(lines: &mut Lines, frame: &TmFrame)
 
 fn push_field(lines: &mut Lines, field: TmField)
     requires { HasRoomFor words_width lines.old }
-    ensures text { lines.new ≡ lines.old ++ field_text (data_field field.entry) }
+    ensures text { lines.new ≡ lines.old ++ field_text (as_content field.entry) }
     ensures short { length lines.new ≤ length lines.old + words_width }
 {
     match field {

@@ -1,5 +1,5 @@
 use Rattle.std.proofs.Common.{ℕ, ◌-◌, ◌∙◌, List, length, take, drop, sym, ap, arith}
-use Rattle.sl_tmframe.specs.TmField.{data_field}
+use Rattle.sl_tmframe.specs.TmField.{as_content}
 use Rattle.sl_fields.specs.FecfField.{fecf_len}
 use Rattle.sl_tmframe.specs.TmFrame.{TmFormat}
 use Rattle.sl_tmframe.proofs.TmFrameLemmas.{read_parts}
@@ -14,7 +14,7 @@ returns c =
     let least = c.shape.invariant.least in
     let format = c.shape.view_is in
     let len = ap (λ (f : TmFormat). f.len) format in
-    read_parts c.args.shape.now c.args.spacecraft frame between.result.now parts.result.0.now header.result.0 parts.result.1 (data_field c.content_under.result)
+    read_parts c.args.shape.now c.args.spacecraft frame between.result.now parts.result.0.now header.result.0 parts.result.1 (as_content c.content_under.result)
     (omega arith)
     (sym c.in_default.ensures)
     header.ensures.header

@@ -12,7 +12,7 @@ pub mod Incomplete
 pub mod Loss
 pub mod NormalForm
 pub mod PacketStart
-pub mod Pointer
+pub mod Progress
 pub mod Recording
 pub mod StepReport
 pub mod StepReportModel

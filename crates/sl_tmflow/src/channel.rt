@@ -16,7 +16,7 @@ ghost use Rattle.sl_tmflow.specs.StepReport.{counts_of};
 
 use crate::hand_over::{hand, hand_packet};
 use crate::packet_octets::PacketOctets;
-use crate::pointer::{Progress, add_field};
+use crate::progress::{Progress, add_field};
 use crate::report::{EMPTY_STEP, TmStep};
 use sl_packet::{FlowFault, Need, PacketSink, add_part, give_back, need};
 use sl_tmframe::{TmField, TmFrame};

@@ -12,7 +12,7 @@ mod form;
 mod hand_over;
 pub mod laws;
 mod packet_octets;
-mod pointer;
+mod progress;
 mod reframe;
 mod report;
 

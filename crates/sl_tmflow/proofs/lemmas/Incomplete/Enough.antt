@@ -7,7 +7,7 @@ use Rattle.sl_packet.specs.Partial.{ForeignIsForeign, WholeIsWhole, OctetsMakeAP
 use Rattle.sl_packet.specs.declared.partial.Need.TheVariants.{Foreign, Octets, Whole}
 use Rattle.sl_packet.proofs.FrontLemmas.{whole_is_a_packet, packet_is_whole, foreign_is_no_packet}
 use Rattle.sl_tmflow.specs.Delivery.{front_step}
-use Rattle.sl_tmflow.specs.Pointer.{IsEnough}
+use Rattle.sl_tmflow.specs.Progress.{IsEnough}
 use Rattle.sl_tmflow.proofs.lemmas.Incomplete.List.{stated_packet_len-most}
 use Rattle.sl_tmflow.proofs.lemmas.Delivery.Step.{incomplete_before}
 

@@ -1,7 +1,7 @@
 use Rattle.std.proofs.Common.{◌∙◌, take, sym, ap, subst}
 use Rattle.sl_packet.specs.Packet.{IsPacket}
 use Rattle.sl_tmframe.specs.TmFrame.{Packets}
-use Rattle.sl_tmflow.specs.Pointer.{progress_step}
+use Rattle.sl_tmflow.specs.Progress.{progress_step}
 use Rattle.sl_tmflow.proofs.lemmas.Delivery.Step.{field_ends}
 use Rattle.sl_tmflow.proofs.channel.Channel.join.Goals as goal
 

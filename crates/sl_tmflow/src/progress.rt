@@ -5,7 +5,7 @@ ghost use Rattle.sl_packet.specs.Front.{front};
 ghost use Rattle.sl_tmframe.specs.TmFrame.{Packets, longest_field};
 ghost use Rattle.sl_tmflow.specs.Delivery.{agreeing_pointer, field_step, front_step};
 ghost use Rattle.sl_tmflow.specs.Incomplete.{longest_incomplete};
-ghost use Rattle.sl_tmflow.specs.Pointer.{IsEnough, progress_step};
+ghost use Rattle.sl_tmflow.specs.Progress.{IsEnough, progress_step};
 
 use crate::packet_octets::PacketOctets;
 use sl_packet::laws::needs_tell_packets;

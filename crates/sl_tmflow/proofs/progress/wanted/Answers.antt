@@ -3,7 +3,7 @@ use Rattle.std.proofs.lemmas.List.{length-take-le}
 use Rattle.sl_packet.specs.declared.partial.Need.{Need}
 use Rattle.sl_packet.specs.declared.partial.Need.TheVariants.{Foreign, Whole}
 use Rattle.sl_tmflow.proofs.lemmas.Incomplete.Enough.{some_is_enough, none_is_enough, none_is_wanted, wanted_complete, wanted_fits}
-use Rattle.sl_tmflow.proofs.pointer.wanted.Goals as goal
+use Rattle.sl_tmflow.proofs.progress.wanted.Goals as goal
 
 pub returns-in-Octets : goal.returns-in-Octets
 returns-in-Octets c =

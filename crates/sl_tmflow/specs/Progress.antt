@@ -4,8 +4,8 @@ use Rattle.std.specs.Prelude.{◌≡◌, ℕ, ◌+◌, ◌≤◌, List, ◌++◌
 use Rattle.sl_packet.specs.Front.{Incomplete, front}
 use Rattle.sl_packet.specs.Packet.{longest_packet}
 use Rattle.sl_tmframe.specs.TmFrame.{Packets}
-use Rattle.sl_tmflow.specs.declared.pointer.Progress.{Progress}
-use Rattle.sl_tmflow.specs.declared.pointer.Progress.TheVariants as code
+use Rattle.sl_tmflow.specs.declared.progress.Progress.{Progress}
+use Rattle.sl_tmflow.specs.declared.progress.Progress.TheVariants as code
 use Rattle.sl_tmflow.specs.Delivery.{Continuation, Ends, Continues, Breaks, field_step, front_step}
 
 -- the continuation that the code's answer stands for, where the packet has these octets so far,

@@ -46,24 +46,24 @@ is_after (Some last) count = follows last count
 
 -- the octets that are held after a step, where `octets` are all octets of the packet so far, those
 -- of the frame included
-abbrev pub kept_of : Continuation → List ℕ → List ℕ
-kept_of (Ends packet) octets = []
-kept_of Continues octets = octets
-kept_of Breaks octets = []
+abbrev pub held_of : Continuation → List ℕ → List ℕ
+held_of (Ends packet) octets = []
+held_of Continues octets = octets
+held_of Breaks octets = []
 
 -- the octets that are held after the next frame, apart from the packets that start in the frame
-abbrev pub kept_octets : Continuation → List ℕ → TmView → List ℕ
-kept_octets step held next = kept_of step (held ++ packet_data next)
+abbrev pub held_by : Continuation → List ℕ → TmView → List ℕ
+held_by step held next = held_of step (held ++ packet_data next)
 
 -- the octets so far of the packet that a step breaks off, and none where it breaks off none
-abbrev pub lost_of : Continuation → List ℕ → List ℕ
-lost_of (Ends packet) octets = []
-lost_of Continues octets = []
-lost_of Breaks octets = octets
+abbrev pub broken_of : Continuation → List ℕ → List ℕ
+broken_of (Ends packet) octets = []
+broken_of Continues octets = []
+broken_of Breaks octets = octets
 
 -- the held octets that the next frame breaks off
-abbrev pub lost_by : ChannelState → TmView → List ℕ
-lost_by state next = lost_of (step_in state next) state.held
+abbrev pub broken_by : ChannelState → TmView → List ℕ
+broken_by state next = broken_of (step_in state next) state.held
 
 -- the octets, where their front is incomplete, and no octets otherwise
 abbrev pub incomplete_in : Front → List ℕ → List ℕ
@@ -93,7 +93,7 @@ abbrev pub channel_after : ChannelState → TmView → ChannelState
 channel_after state next =
     record {
       count = Some next.vc_count;
-      held = held_after next.field (kept_octets (step_in state next) state.held next);
+      held = held_after next.field (held_by (step_in state next) state.held next);
     }
 
 -- the packets that end in the next frame

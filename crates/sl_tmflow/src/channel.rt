@@ -7,7 +7,7 @@ ghost use Rattle.sl_tmframe.specs.TmField.{as_content};
 ghost use Rattle.sl_tmframe.specs.TmFrame.{IsFieldInRange, Packets, longest_field};
 ghost use Rattle.sl_tmflow.specs.Anomaly.{gap_after};
 ghost use Rattle.sl_tmflow.specs.Channel.{foreign_in, held_after, incomplete_in, is_after};
-ghost use Rattle.sl_tmflow.specs.Channel.{kept_octets, kept_of, lost_by, lost_of, new_channel};
+ghost use Rattle.sl_tmflow.specs.Channel.{held_by, held_of, broken_by, broken_of, new_channel};
 ghost use Rattle.sl_tmflow.specs.Channel.{packets_after, channel_after, step_in};
 ghost use Rattle.sl_tmflow.specs.Delivery.{ended, field_step};
 ghost use Rattle.sl_tmflow.specs.Incomplete.{longest_incomplete};
@@ -73,7 +73,7 @@ impl Channel {
         ensures gap { IfOk result (λ step.
             step.gap ≡ gap_after self.old.state.count frame.now.vc_count) }
         ensures dropped { IfOk result (λ step.
-            step.dropped ≡ length (lost_by self.old.state frame.now)) }
+            step.dropped ≡ length (broken_by self.old.state frame.now)) }
         ensures foreign { IfOk result (λ step. step.foreign ≡ foreign_in frame.now.field) }
 
         // Memory is refused only where a packet is incomplete, before the frame or after it.
@@ -133,14 +133,14 @@ impl Channel {
         // A packet that goes on is kept, with the frame's octets.
         ensures count { self.new.state.count ≡ self.old.state.count }
         ensures held { OnOk result (self.new.state.held
-            ≡ kept_octets (step_in self.old.state frame.now) self.old.state.held frame.now) }
+            ≡ held_by (step_in self.old.state frame.now) self.old.state.held frame.now) }
 
         // The sink is handed a packet that ends. The octets of one that is broken off are counted.
         ensures hands_over { HandsOver S.taking S.failing S.failures counts_of
             sink.old frame.now.vc (ended (step_in self.old.state frame.now)) result sink.new }
         ensures few { IfOk result (λ step. step.packets + step.idle ≤ 1) }
         ensures dropped { IfOk result (λ step.
-            step.dropped ≡ length (lost_by self.old.state frame.now)) }
+            step.dropped ≡ length (broken_by self.old.state frame.now)) }
 
         // Memory is refused only where a packet is incomplete before the frame.
         ensures memory { IfErr result (λ flow. flow ≡ FlowFault.Memory → self.old.state.held ≢ []) }
@@ -199,7 +199,7 @@ impl Channel {
         requires short { length field.now.octets.now ≤ longest_field }
         // A packet that goes on is kept, with all octets of the field.
         ensures count { self.new.state.count ≡ self.old.state.count }
-        ensures held { OnOk result (self.new.state.held ≡ kept_of
+        ensures held { OnOk result (self.new.state.held ≡ held_of
             (field_step self.old.state.held (Packets field.now.first field.now.octets.now))
             (self.old.state.held ++ field.now.octets.now)) }
 
@@ -209,7 +209,7 @@ impl Channel {
             (ended (field_step self.old.state.held (Packets field.now.first field.now.octets.now)))
             result sink.new }
         ensures few { IfOk result (λ step. step.packets + step.idle ≤ 1) }
-        ensures dropped { IfOk result (λ step. step.dropped ≡ length (lost_of
+        ensures dropped { IfOk result (λ step. step.dropped ≡ length (broken_of
             (field_step self.old.state.held (Packets field.now.first field.now.octets.now))
             self.old.state.held)) }
     {

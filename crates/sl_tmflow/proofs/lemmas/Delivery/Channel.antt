@@ -12,7 +12,7 @@ use Rattle.sl_packet.specs.declared.sink.SinkFault.{SinkFault}
 use Rattle.sl_packet.proofs.StoppingLemmas.{hands_same}
 use Rattle.sl_tmframe.specs.TmFrame.{TmView, DataField, Packets}
 use Rattle.sl_tmflow.specs.VirtualChannel.{views_on, last_count}
-use Rattle.sl_tmflow.specs.Channel.{ChannelState, KeptChannel, new_channel, held_step, kept_of, kept_octets, incomplete_in, held_after, channel_after, packets_after}
+use Rattle.sl_tmflow.specs.Channel.{ChannelState, KeptChannel, new_channel, held_step, held_of, held_by, incomplete_in, held_after, channel_after, packets_after}
 use Rattle.sl_tmflow.specs.Delivery.{Continuation, ended, front_step, outcome_of, outcome_of_front, packets_ending}
 use Rattle.sl_tmflow.specs.Incomplete.{frame_incomplete, incomplete_octets}
 use Rattle.sl_tmflow.specs.Extractor.{ExtractorState, HasSeen, HasProcessed, ended_by, held_as}
@@ -44,16 +44,16 @@ one_more state (view ∷ later) next seen =
 
 -- ---- the octets that are held
 
-goes_on : (s : Continuation) (octet : ℕ) (octets : List ℕ) → carried s (octet ∷ octets) ++ [] ≡ held_as (kept_of s (octet ∷ octets))
+goes_on : (s : Continuation) (octet : ℕ) (octets : List ℕ) → carried s (octet ∷ octets) ++ [] ≡ held_as (held_of s (octet ∷ octets))
 goes_on s octet octets = grind arith
 
 -- where a packet starts, the incomplete one doesn't go on
 
-not_past_start : (pointer before : ℕ) (field all : List ℕ) (f : Front) → kept_of (front_step (Some pointer) before field all f) all ≡ []
+not_past_start : (pointer before : ℕ) (field all : List ℕ) (f : Front) → held_of (front_step (Some pointer) before field all f) all ≡ []
 not_past_start pointer before field all f = grind arith
 
 none_kept : (count : Option ℕ) (held : List ℕ) (next : TmView) (pointer : ℕ) (octets : List ℕ) → next.field ≡ Packets (Some pointer) octets
-    → kept_octets (held_step count held next) held next ≡ []
+    → held_by (held_step count held next) held next ≡ []
 none_kept count held next pointer octets is = grind (arith, not_past_start)
 
 -- the packets that start in the frame
@@ -69,10 +69,10 @@ incomplete_in_field : (view : TmView) (field : DataField) (kept : List ℕ) → 
 incomplete_in_field view field kept none = grind (arith, held_at_rest, incomplete_from_pointer, append-nil)
 
 held_by_frame : (count : Option ℕ) (held : List ℕ) (next : TmView)
-    → held_as (held_after next.field (kept_octets (held_step count held next) held next))
-    ≡ held_as (kept_octets (held_step count held next) held next) ++ frame_incomplete next []
+    → held_as (held_after next.field (held_by (held_step count held next) held next))
+    ≡ held_as (held_by (held_step count held next) held next) ++ frame_incomplete next []
 held_by_frame count held next =
-    incomplete_in_field next next.field (kept_octets (held_step count held next) held next) (λ pointer octets is. none_kept count held next pointer octets is)
+    incomplete_in_field next next.field (held_by (held_step count held next) held next) (λ pointer octets is. none_kept count held next pointer octets is)
 
 -- ---- one more frame
 

@@ -16,7 +16,7 @@ pub record FormState : Type 0 where
   -- the octets of the normal form that are still to come
   pub left : List ℕ
   -- the number of octets that the `TmForm` itself has memory for
-  pub octets_room : ℕ
+  pub capacity : ℕ
 
 -- the normal form of the packets of virtual channels 0 to 7
 abbrev pub form_of : TmFormat → ℕ → List (List (List ℕ)) → List ℕ
@@ -36,7 +36,7 @@ piece_room = 90112
 
 -- a `TmForm` has memory for the octets that don't fill a data field
 abbrev pub IsReserved : FormState → Type 0
-IsReserved s = octets_room ≤ s.octets_room
+IsReserved s = octets_room ≤ s.capacity
 
 -- The `TmForm` or the vector lacks room for a piece: where the `TmForm` has memory reserved, the
 -- vector doesn't.

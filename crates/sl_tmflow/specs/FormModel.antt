@@ -17,7 +17,7 @@ octets_to_come f =
 
 -- what a `TmForm` stands for
 abbrev pub form_state : Inside → FormState
-form_state f = record { left = octets_to_come f; octets_room = vec_capacity f.octets }
+form_state f = record { left = octets_to_come f; capacity = vec_capacity f.octets }
 
 -- The format, the spacecraft and the virtual channel are in range. The octets that are kept don't
 -- fill a data field, the offset `start` lies in a data field, and the packets aren't idle.

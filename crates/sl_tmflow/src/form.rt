@@ -106,7 +106,7 @@ impl<'d> TmForm<'d> {
             (form_of shape.now spacecraft delivered.now.lists) ≡ take 8 delivered.now.lists }
 
         // No memory is held.
-        ensures memory { result.octets_room ≡ 0 }
+        ensures memory { result.capacity ≡ 0 }
     {
         // For the proof alone, at no cost: the range of the length of a frame.
         let _ = shape.len();
@@ -139,7 +139,7 @@ impl<'d> TmForm<'d> {
         // Nothing is added, and no memory is given back. Where both had room, no memory is refused.
         ensures left { self.new.left ≡ self.old.left }
         ensures form { form.new.items ≡ form.old.items }
-        ensures keeps { self.old.octets_room ≤ self.new.octets_room }
+        ensures keeps { self.old.capacity ≤ self.new.capacity }
         ensures capacity { vec_capacity form.old ≤ vec_capacity form.new }
         ensures full { OnErr result (LacksRoom self.old form.old) }
     {
@@ -169,7 +169,7 @@ impl<'d> TmForm<'d> {
             ((self.new.left ≡ self.old.left) × (form.new.items ≡ form.old.items)) }
 
         // No memory is given back.
-        ensures keeps { self.old.octets_room ≤ self.new.octets_room }
+        ensures keeps { self.old.capacity ≤ self.new.capacity }
         ensures capacity { vec_capacity form.old ≤ vec_capacity form.new }
     {
         loop {

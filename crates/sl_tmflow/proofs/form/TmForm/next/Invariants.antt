@@ -7,7 +7,7 @@ abbrev pub invariant-loop-packet : goal.invariant-loop-packet
 invariant-loop-packet l = record {
   left : octets_to_come l.self-inside ≡ l.fn.self.left;
   form : l.form.items ≡ l.fn.form.items;
-  keeps : l.fn.self.octets_room ≤ vec_capacity l.self-inside.octets;
+  keeps : l.fn.self.capacity ≤ vec_capacity l.self-inside.octets;
   capacity : vec_capacity l.fn.form ≤ vec_capacity l.form;
   is : IsTmForm l.self-inside;
 }

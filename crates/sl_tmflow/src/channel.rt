@@ -70,11 +70,11 @@ impl Channel {
             sink.old frame.now.vc (packets_after self.old.state frame.now) result sink.new }
 
         // The anomalies.
-        ensures gap { IfOk result (λ step.
-            step.gap ≡ gap_after self.old.state.count frame.now.vc_count) }
-        ensures dropped { IfOk result (λ step.
-            step.dropped ≡ length (broken_by self.old.state frame.now)) }
-        ensures foreign { IfOk result (λ step. step.foreign ≡ foreign_in frame.now.field) }
+        ensures gap { IfOk result (λ report.
+            report.gap ≡ gap_after self.old.state.count frame.now.vc_count) }
+        ensures dropped { IfOk result (λ report.
+            report.dropped ≡ length (broken_by self.old.state frame.now)) }
+        ensures foreign { IfOk result (λ report. report.foreign ≡ foreign_in frame.now.field) }
 
         // Memory is refused only where a packet is incomplete, before the frame or after it.
         ensures memory { IfErr result (λ flow. flow ≡ FlowFault.Memory
@@ -85,12 +85,12 @@ impl Channel {
         // `match` and not `?`, here and below: `?` converts the fault, and each clause on faults
         // would then have to be proved by hand.
         let ended = match self.continue_packet(frame, sink) {
-            Ok(step) => step,
+            Ok(report) => report,
             Err(flow) => return Err(flow),
         };
         self.count = Some(frame.vc_count());
         let begun = match self.begin(&frame.field(), u16::from(frame.vc()), sink) {
-            Ok(step) => step,
+            Ok(report) => report,
             Err(flow) => return Err(flow),
         };
         Ok(TmStep {
@@ -138,9 +138,9 @@ impl Channel {
         // The sink is handed a packet that ends. The octets of one that is broken off are counted.
         ensures hands_over { HandsOver S.taking S.failing S.failures counts_of
             sink.old frame.now.vc (ended (step_in self.old.state frame.now)) result sink.new }
-        ensures few { IfOk result (λ step. step.packets + step.idle ≤ 1) }
-        ensures dropped { IfOk result (λ step.
-            step.dropped ≡ length (broken_by self.old.state frame.now)) }
+        ensures few { IfOk result (λ report. report.packets + report.idle ≤ 1) }
+        ensures dropped { IfOk result (λ report.
+            report.dropped ≡ length (broken_by self.old.state frame.now)) }
 
         // Memory is refused only where a packet is incomplete before the frame.
         ensures memory { IfErr result (λ flow. flow ≡ FlowFault.Memory → self.old.state.held ≢ []) }
@@ -208,8 +208,8 @@ impl Channel {
         ensures hands_over { HandsOver S.taking S.failing S.failures counts_of sink.old vc
             (ended (field_step self.old.state.held (Packets field.now.first field.now.octets.now)))
             result sink.new }
-        ensures few { IfOk result (λ step. step.packets + step.idle ≤ 1) }
-        ensures dropped { IfOk result (λ step. step.dropped ≡ length (broken_of
+        ensures few { IfOk result (λ report. report.packets + report.idle ≤ 1) }
+        ensures dropped { IfOk result (λ report. report.dropped ≡ length (broken_of
             (field_step self.old.state.held (Packets field.now.first field.now.octets.now))
             self.old.state.held)) }
     {
@@ -254,8 +254,8 @@ impl Channel {
         // version after these packets are reported.
         ensures hands_over { HandsOver S.taking S.failing S.failures counts_of
             sink.old vc (whole_packets (as_content field.now)) result sink.new }
-        ensures few { IfOk result (λ step. step.packets + step.idle ≤ longest_field) }
-        ensures foreign { IfOk result (λ step. step.foreign ≡ foreign_in (as_content field.now)) }
+        ensures few { IfOk result (λ report. report.packets + report.idle ≤ longest_field) }
+        ensures foreign { IfOk result (λ report. report.foreign ≡ foreign_in (as_content field.now)) }
     {
         match *field {
             TmField::Packets {
@@ -287,10 +287,10 @@ impl Channel {
         // these packets are reported.
         ensures hands_over { HandsOver S.taking S.failing S.failures counts_of
             sink.old vc (packets_of octets.now) result sink.new }
-        ensures few { IfOk result (λ step. step.packets + step.idle ≤ longest_field) }
-        ensures foreign { IfOk result (λ step. step.foreign ≡ is_foreign (rest_of octets.now)) }
+        ensures few { IfOk result (λ report. report.packets + report.idle ≤ longest_field) }
+        ensures foreign { IfOk result (λ report. report.foreign ≡ is_foreign (rest_of octets.now)) }
     {
-        let (step, remainder) = match hand(sink, vc, octets) {
+        let (report, remainder) = match hand(sink, vc, octets) {
             Ok(handed) => handed,
             Err(flow) => return Err(flow),
         };
@@ -299,7 +299,7 @@ impl Channel {
         if !begun.is_empty() && add_part(&mut self.held, begun).is_err() {
             return Err(FlowFault::Memory);
         }
-        Ok(TmStep { foreign, ..step })
+        Ok(TmStep { foreign, ..report })
     }
 }
 

@@ -78,19 +78,19 @@ impl Extractor {
         ensures accepted { OnOk result (ForProcessed self.old (λ views.
             TakesAll S.taking sink.old frame.now.vc (without_idle (ended_by views frame.now))
             sink.new)) }
-        ensures packets { IfOk result (λ step. ForProcessed self.old (λ views.
-            step.packets ≡ length (without_idle (ended_by views frame.now)))) }
-        ensures idle { IfOk result (λ step. ForProcessed self.old (λ views.
-            step.idle ≡ length (only_idle (ended_by views frame.now)))) }
+        ensures packets { IfOk result (λ report. ForProcessed self.old (λ views.
+            report.packets ≡ length (without_idle (ended_by views frame.now)))) }
+        ensures idle { IfOk result (λ report. ForProcessed self.old (λ views.
+            report.idle ≡ length (only_idle (ended_by views frame.now)))) }
         ensures kept { OnOk result (S.failures sink.new ≡ S.failures sink.old) }
 
         // The anomalies: a count that doesn't follow the last one, an incomplete packet that the
         // frame breaks off, and octets of another packet version at a packet start.
-        ensures gap { IfOk result (λ step. ForProcessed self.old (λ views.
-            step.gap ≡ gap_of (views_on frame.now.vc views) frame.now)) }
-        ensures dropped { IfOk result (λ step. ForProcessed self.old (λ views.
-            step.dropped ≡ dropped_of (views_on frame.now.vc views) frame.now)) }
-        ensures foreign { IfOk result (λ step. step.foreign ≡ foreign_of frame.now.field) }
+        ensures gap { IfOk result (λ report. ForProcessed self.old (λ views.
+            report.gap ≡ gap_of (views_on frame.now.vc views) frame.now)) }
+        ensures dropped { IfOk result (λ report. ForProcessed self.old (λ views.
+            report.dropped ≡ dropped_of (views_on frame.now.vc views) frame.now)) }
+        ensures foreign { IfOk result (λ report. report.foreign ≡ foreign_of frame.now.field) }
 
         // After a fault each call answers `Failed`, and leaves the extractor and the sink as they
         // were. No call answers `Failed` before a fault.

@@ -22,7 +22,7 @@ pub(crate) fn hand_packet<S: PacketSink>(
         sink.old vc (packet.now ∷ []) result sink.new }
 
     // No packet is broken off, and no memory is refused.
-    ensures dropped { IfOk result (λ step. step.dropped ≡ 0) }
+    ensures dropped { IfOk result (λ report. report.dropped ≡ 0) }
     ensures not_memory { IfErr result (λ flow. flow ≢ FlowFault.Memory) }
 {
     if is_idle(packet) {
@@ -63,12 +63,12 @@ pub(crate) fn hand<'a, S: PacketSink>(
 {
     match hand_over(sink, vc, octets) {
         Ok(handed) => {
-            let step = TmStep {
+            let report = TmStep {
                 packets: handed.packets as u32,
                 idle: handed.idle as u32,
                 ..EMPTY_STEP
             };
-            Ok((step, handed.remainder))
+            Ok((report, handed.remainder))
         }
         Err(fault) => Err(FlowFault::Sink(fault)),
     }

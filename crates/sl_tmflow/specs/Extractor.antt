@@ -30,10 +30,6 @@ pub record HasProcessed (state : ExtractorState) (views : List TmView) : Type 0 
   pub working : state.has_failed ≡ false
   pub each : (vc : ℕ) → vc < 8 → HasSeen (slice_index_or state.channels vc new_channel).state (views_on vc views)
 
--- some frames were processed, and no fault came
-abbrev pub IsWorking : ExtractorState → Type 0
-IsWorking state = (views : List TmView) × HasProcessed state views
-
 -- the property holds for every list of frames that may have been processed up to this state
 abbrev pub ForProcessed : ExtractorState → (List TmView → Type 0) → Type 0
 ForProcessed state holds = (views : List TmView) → HasProcessed state views → holds views

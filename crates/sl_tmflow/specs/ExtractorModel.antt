@@ -12,10 +12,9 @@ use Rattle.sl_tmflow.specs.declared.extractor.Extractor.TheInside as extractor
 abbrev pub kept_channel : channel.Inside → KeptChannel
 kept_channel c = record { state = record { count = c.count; held = c.held.items }; capacity = vec_capacity c.held }
 
--- no whole packet is held between frames: the octets are fewer than the 65,542 of the longest
--- packet
-abbrev pub HoldsNoPacket : channel.Inside → Type 0
-HoldsNoPacket c = length c.held.items ≤ longest_incomplete
+-- the octets that are held between frames are fewer than the 65,542 of the longest packet
+abbrev pub HoldsFew : channel.Inside → Type 0
+HoldsFew c = length c.held.items ≤ longest_incomplete
 
 -- what an `Extractor` stands for
 abbrev pub extractor_state : extractor.Inside → ExtractorState

@@ -38,11 +38,11 @@ impl Model for Channel {
 
     ghost Value = { KeptChannel };
 
-    ghost use Rattle.sl_tmflow.specs.ExtractorModel.{kept_channel, HoldsNoPacket};
+    ghost use Rattle.sl_tmflow.specs.ExtractorModel.{kept_channel, HoldsFew};
 
     ghost view = { kept_channel };
 
-    ghost invariant = { HoldsNoPacket };
+    ghost invariant = { HoldsFew };
 }
 
 impl Channel {

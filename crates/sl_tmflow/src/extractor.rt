@@ -115,16 +115,15 @@ impl Extractor {
         if self.has_failed {
             return Err(FlowFault::Failed);
         }
-        // The flag is set before the step, and stays set if the step ends with a fault.
-        self.has_failed = true;
-        // `match` and not `?`: `?` converts the fault, and each clause on faults would then have to
-        // be proved by hand.
-        let step = match self.channels[usize::from(frame.vc())].take_frame(frame, sink) {
-            Ok(step) => step,
-            Err(fault) => return Err(fault),
-        };
-        self.has_failed = false;
-        Ok(step)
+        // `match` and not `?`: `?` converts the fault, and each clause that says which fault it is
+        // would then have to be proved by hand.
+        match self.channels[usize::from(frame.vc())].take_frame(frame, sink) {
+            Ok(report) => Ok(report),
+            Err(flow) => {
+                self.has_failed = true;
+                Err(flow)
+            }
+        }
     }
 
     /// The number of octets so far of the packet that is incomplete after the last frame of the

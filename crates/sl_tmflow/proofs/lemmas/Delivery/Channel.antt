@@ -1,5 +1,5 @@
 -- The state of a channel is the one that its frames lead to, frame by frame.
-use Rattle.std.proofs.Common.{◌≡◌, ℕ, ◌<◌, ◌≤◌, false, List, [], ◌∷◌, ◌++◌, length, set, Option, Some, Result, inl, inr, refl, sym, ◌∙◌, ap, subst, arith, append-nil}
+use Rattle.std.proofs.Common.{◌≡◌, ℕ, ◌<◌, ◌≤◌, Bool, false, List, [], ◌∷◌, ◌++◌, length, set, Option, Some, Result, inl, inr, refl, sym, ◌∙◌, ap, subst, arith, append-nil}
 use Rattle.std.proofs.lemmas.Grind.{common_steps}
 use Rattle.std.specs.List.{slice_index_or}
 use Rattle.std.proofs.lemmas.Bool.Decides.{eqb_tells}
@@ -134,14 +134,15 @@ module _ (old : ExtractorState) (views : List TmView) (next : TmView) (states : 
 
   pub processed_more : (after : KeptChannel) → HasProcessed old views → states ≡ old.channels → length states ≡ 8 → next.vc ≤ 7 → at ≡ next.vc
       → after.state ≡ channel_after (slice_index_or states at d).state next
-      → HasProcessed (record { channels = set states at after; has_failed = false }) (views ++ next ∷ [])
-  processed_more after processed are eight fits same by =
+      → (failed : Bool) → failed ≡ false
+      → HasProcessed (record { channels = set states at after; has_failed = failed }) (views ++ next ∷ [])
+  processed_more after processed are eight fits same by failed working =
       let inside : next.vc < length states = omega arith in
       let now : after.state ≡ channel_after (slice_index_or states next.vc new_channel).state next =
       by ∙ ap (λ i. channel_after (slice_index_or states i d).state next) same
       ∙ ap (λ (s : KeptChannel). channel_after s.state next) (get_or_default states next.vc d new_channel inside) in
       record {
-        working = refl;
+        working = working;
         each = λ vc below.
             let seen : HasSeen (slice_index_or states vc new_channel).state (views_on vc views) =
             subst (λ l. HasSeen (slice_index_or l vc new_channel).state (views_on vc views)) (sym are) (processed.each vc below) in

@@ -116,7 +116,7 @@ impl Channel {
         ensures { result ≡ gap_after self.now.state.count count }
     {
         let expected = self.count?.wrapping_add(1);
-        if count == expected {
+        if self.is_followed_by(count) {
             None
         } else {
             Some(expected)

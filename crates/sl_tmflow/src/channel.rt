@@ -296,7 +296,7 @@ impl Channel {
         };
         let (begun, foreign) = read_remainder(remainder);
         self.held.clear();
-        if !begun.is_empty() && add_part(&mut self.held, begun).is_err() {
+        if add_part(&mut self.held, begun).is_err() {
             return Err(FlowFault::Memory);
         }
         Ok(TmStep { foreign, ..report })

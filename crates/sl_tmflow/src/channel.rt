@@ -6,8 +6,8 @@ ghost use Rattle.sl_packet.specs.Stopping.{HandsOver};
 ghost use Rattle.sl_tmframe.specs.TmField.{as_content};
 ghost use Rattle.sl_tmframe.specs.TmFrame.{IsFieldInRange, Packets, longest_field};
 ghost use Rattle.sl_tmflow.specs.Anomaly.{gap_after};
-ghost use Rattle.sl_tmflow.specs.Channel.{foreign_in, held_after, incomplete_in, is_after};
-ghost use Rattle.sl_tmflow.specs.Channel.{held_by, held_of, broken_by, broken_of, new_channel};
+ghost use Rattle.sl_tmflow.specs.Channel.{broken_by, broken_of, foreign_in, held_after};
+ghost use Rattle.sl_tmflow.specs.Channel.{held_by, held_of, incomplete_in, is_after, new_channel};
 ghost use Rattle.sl_tmflow.specs.Channel.{packets_after, channel_after, step_in};
 ghost use Rattle.sl_tmflow.specs.Delivery.{ended, field_step};
 ghost use Rattle.sl_tmflow.specs.Incomplete.{longest_incomplete};
@@ -82,8 +82,8 @@ impl Channel {
     {
         let gap = self.gap_at(frame.vc_count());
         // The packet that was incomplete before the frame comes first, then those that start in it.
-        // `match` and not `?`, here and below: `?` converts the fault, and each clause on faults
-        // would then have to be proved by hand.
+        // `match` and not `?`, here and below: `?` converts the fault, and each clause that says
+        // which fault it is would then have to be proved by hand.
         let ended = match self.continue_packet(frame, sink) {
             Ok(report) => report,
             Err(flow) => return Err(flow),
@@ -255,7 +255,8 @@ impl Channel {
         ensures hands_over { HandsOver S.taking S.failing S.failures counts_of
             sink.old vc (whole_packets (as_content field.now)) result sink.new }
         ensures few { IfOk result (λ report. report.packets + report.idle ≤ longest_field) }
-        ensures foreign { IfOk result (λ report. report.foreign ≡ foreign_in (as_content field.now)) }
+        ensures foreign { IfOk result (λ report.
+            report.foreign ≡ foreign_in (as_content field.now)) }
     {
         match *field {
             TmField::Packets {
@@ -295,6 +296,8 @@ impl Channel {
             Err(flow) => return Err(flow),
         };
         let (begun, foreign) = read_remainder(remainder);
+        // No octets are held here, since a packet that goes on leaves no packet start. The contract
+        // doesn't say so.
         self.held.clear();
         if add_part(&mut self.held, begun).is_err() {
             return Err(FlowFault::Memory);
@@ -312,6 +315,7 @@ fn read_remainder(octets: &[u8]) -> (&[u8], bool)
     match need(octets) {
         Need::Header(_) | Need::Octets(_) => (octets, false),
         Need::Foreign => (&[], true),
+        // Not of the octets after whole packets. The contract speaks of any octets.
         Need::Whole(_) => (&[], false),
     }
 }

@@ -175,6 +175,7 @@ impl<'d> TmForm<'d> {
         loop {
             let (shape, heading, start) = (self.shape, self.heading, self.start);
             if let Some((packet, later)) = self.packets.split_first() {
+                // With this memory reserved, adding isn't refused any. The same holds below.
                 reserve_piece(&mut self.octets, form)?;
                 let packet = packet.as_slice();
                 let frames = add_packet(form, &mut self.octets, &shape, heading, start, packet)?;
@@ -263,6 +264,7 @@ fn add_packet(
         octets: octets.as_slice(),
     };
     let pushed = push_fields(form, shape, heading, &whole);
+    // Cleared at a refusal too, so that fewer octets than a data field has are kept (clause `few`).
     octets.clear();
     pushed?;
     let later = PacketOctets {
@@ -311,6 +313,7 @@ fn add_filling(
         octets: octets.as_slice(),
     };
     let pushed = push_fields(form, shape, heading, &whole);
+    // Cleared at a refusal too, so that fewer octets than a data field has are kept (clause `few`).
     octets.clear();
     pushed?;
     Ok(frames)

@@ -24,8 +24,8 @@ pub(crate) enum Progress {
 }
 
 /// Adds the first octets of a data field to the octets `held` of an incomplete packet, as many as
-/// the packet needs, and answers what the frame with this field does to the packet. Where memory is
-/// refused, no octets are added.
+/// the packet needs, or the whole field where the packet's length isn't known yet. Answers what the
+/// frame with this field does to the packet. Where memory is refused, no octets are added.
 #[inline(always)]
 pub(crate) fn add_field(held: &mut Vec<u8>, field: &PacketOctets) -> Result<Progress, AllocError>
     requires held { length held.old.items ≤ longest_incomplete }
@@ -65,6 +65,7 @@ fn wanted<'a>(held: &[u8], field: &'a [u8]) -> &'a [u8]
     match need(held) {
         Need::Octets(wanted) if wanted as usize <= field.len() => &field[..wanted as usize],
         Need::Header(_) | Need::Octets(_) => field,
+        // Not of an incomplete packet. The contract speaks of any octets.
         Need::Foreign | Need::Whole(_) => &[],
     }
 }
@@ -82,6 +83,7 @@ fn progress_in(octets: &[u8], before: usize, field: &PacketOctets) -> Progress
     let pointer = field.first;
     let field = field.octets;
     match need(octets) {
+        // Not of an incomplete packet. The contract speaks of any octets.
         Need::Foreign => Progress::Breaks,
         Need::Header(_) | Need::Octets(_) if pointer.is_some() => Progress::Breaks,
         Need::Header(_) | Need::Octets(_) => Progress::Continues,

@@ -21,7 +21,7 @@ use std::marker::Model;
 
 /// Delivers the packets of frames of one kind, and reports what is found of the frames. These are
 /// given one after another. A clause with `before` holds for every list of frames given before.
-pub trait Delivery: Drop {
+pub trait Deliverer: Drop {
     ghost use Rattle.sl_link.specs.Link.Managed.{Parameters};
     ghost use Rattle.sl_link.specs.Kind.Delivery.{IsWithin, Kind};
 
@@ -141,7 +141,7 @@ impl Model for TcFound {
     ghost inverse = { tc_inside };
 }
 
-impl Delivery for Extractor {
+impl Deliverer for Extractor {
     ghost use Rattle.sl_link.specs.Kind.Tm.{HasProcessedTm, IsIncompleteAtLastTm, tm_found, tm_kind};
     ghost use Rattle.sl_link.specs.Pass.Tm.{is_tm_frame};
 
@@ -198,7 +198,7 @@ impl Delivery for Extractor {
     ghost within = { λ extractor p frames processed. processed.within };
 }
 
-impl Delivery for Receiver {
+impl Deliverer for Receiver {
     ghost use Rattle.sl_link.specs.Kind.Tc.{HasProcessedTc, IsIncompleteAtLastTc, tc_found, tc_kind};
     ghost use Rattle.sl_link.specs.Pass.Tc.{is_tc_frame};
 

@@ -15,7 +15,7 @@ ghost use Rattle.sl_link.specs.Pass.{MayRefuseMemoryAtSome, MayRefuseMemoryIn, c
 
 mod form;
 
-use crate::kind::Delivery;
+use crate::kind::Deliverer;
 use crate::link::counted::Counted;
 use crate::link::fault::LinkFault;
 use crate::link::managed::Managed;
@@ -125,7 +125,7 @@ pub fn normalise_tc<R: Read, W: Write>(
 }
 
 /// The normal form of the packets of a kind of frames.
-trait Formed: Delivery {
+trait Formed: Deliverer {
     ghost use Rattle.sl_link.specs.Link.Managed.{Parameters};
 
     /// The normal form of lists of packets, one for each channel.
@@ -229,7 +229,7 @@ fn normalise<D: Formed, F: Framer, R: Read, W: Write>(
 }
 
 /// Reads a recording to its end, and stores the packets that its frames deliver.
-pub fn store_packets<D: Delivery, F: Framer, R: Read>(
+pub fn store_packets<D: Deliverer, F: Framer, R: Read>(
     alloc: Global,
     managed: &Managed,
     framer: &mut F,
@@ -265,7 +265,7 @@ pub fn store_packets<D: Delivery, F: Framer, R: Read>(
 }
 
 /// Stores the packets that the frames of a recording in memory deliver.
-pub fn store_packets_in_memory<D: Delivery, F: Framer>(
+pub fn store_packets_in_memory<D: Deliverer, F: Framer>(
     alloc: Global,
     managed: &Managed,
     framer: &mut F,
@@ -294,13 +294,13 @@ pub fn store_packets_in_memory<D: Delivery, F: Framer>(
 
 // Stores the packets that frames deliver.
 #[derive(Drop)]
-struct Store<D: Delivery> {
+struct Store<D: Deliverer> {
     delivery: D,
     so_far: Totals,
     delivered: Delivered,
 }
 
-impl<D: Delivery> FrameSink for Store<D> {
+impl<D: Deliverer> FrameSink for Store<D> {
     ghost use Rattle.sl_link.specs.Kind.Delivery.{AreStored, HasDelivered, MayRefuseStoreMemory};
     ghost use Rattle.sl_link.specs.Normalise.Form.{IsMemoryRefused};
 

@@ -10,7 +10,7 @@ ghost use Rattle.sl_link.specs.Link.Managed.{tc_format};
 ghost use Rattle.sl_link.specs.Pass.{MayRefuseMemoryAtSome, MayRefuseMemoryIn, chunk_size};
 ghost use Rattle.sl_link.specs.Same.{ComparesPackets, MayRefuseStoreMemoryInTc, MayRefuseStoreMemoryInTm, StopsInMemory};
 
-use crate::kind::Delivery;
+use crate::kind::Deliverer;
 use crate::link::counted::Counted;
 use crate::link::fault::LinkFault;
 use crate::link::managed::Managed;
@@ -108,7 +108,7 @@ pub fn same_packets_tc<A: Read, B: Read>(
 
 // Reads two recordings to their ends, one after the other, and reports whether both deliver the
 // same packets.
-fn same_packets<D: Delivery, F: Framer + Drop, A: Read, B: Read>(
+fn same_packets<D: Deliverer, F: Framer + Drop, A: Read, B: Read>(
     alloc: Global,
     managed: &Managed,
     framers: (F, F),
@@ -190,7 +190,7 @@ pub fn same_packets_in_memory_tc(
 }
 
 // Reports whether two recordings in memory deliver the same packets.
-fn same_packets_in_memory<D: Delivery, F: Framer + Drop>(
+fn same_packets_in_memory<D: Deliverer, F: Framer + Drop>(
     alloc: Global,
     managed: &Managed,
     framers: (F, F),

@@ -6,7 +6,7 @@ mod lines;
 mod printer;
 
 use crate::io::output::{Output, Written};
-use crate::kind::Delivery;
+use crate::kind::Deliverer;
 use crate::link::fault::LinkFault;
 use crate::link::managed::Managed;
 use crate::link::totals::Totals;
@@ -18,7 +18,7 @@ use std::alloc::Global;
 use std::io::Write;
 
 /// How the packets of a kind of frames are listed.
-pub trait Printed: Delivery {
+pub trait Printed: Deliverer {
     ghost use Rattle.sl_link.specs.Link.Managed.{Parameters};
     ghost use Rattle.sl_link.specs.Verbs.Packets.Printed.{ArePrinted};
 

@@ -5,7 +5,7 @@ ghost use Rattle.sl_link.specs.Io.Lines.{HasRoom};
 ghost use Rattle.sl_link.specs.Verbs.Check.Checking.{AddsAnomalies};
 
 use crate::io::lines::Lines;
-use crate::kind::{Delivery, TcFound, TmFound};
+use crate::kind::{Deliverer, TcFound, TmFound};
 use crate::verbs::check::lines::{Place, event_lines};
 use crate::verbs::check::{lines_tc, lines_tm};
 use sl_tcflow::Receiver;
@@ -14,7 +14,7 @@ use sl_tmflow::Extractor;
 use sl_tmframe::TmSkip;
 
 /// The lines of what is found of a kind of frames, and of what is incomplete after the last one.
-pub trait Checked: Delivery {
+pub trait Checked: Deliverer {
     ghost use Rattle.sl_link.specs.Link.Managed.{Parameters};
 
     /// The lines of what is found of a frame that begins at an offset.

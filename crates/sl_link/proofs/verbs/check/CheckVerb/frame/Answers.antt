@@ -11,8 +11,8 @@ add-requires-clause-within g c =
     let p = c.args.managed.now in
     let before = c.requires.0 in
     let d = c.requires.1 in
-    let within = g.met.D.Delivery.within in
-    fits_more (g.D.Delivery.kind p) (within _ p before d.processed).adds d (c.in_ok-report.ensures.delivers before d.processed).brings.reported
+    let within = g.met.D.Deliverer.within in
+    fits_more (g.D.Deliverer.kind p) (within _ p before d.processed).adds d (c.in_ok-report.ensures.delivers before d.processed).brings.reported
     (within _ p (before ++ c.args.frame.now ∷ []) (c.in_ok-report.ensures.processed before d.processed))
 
 pub add_anomalies-requires : goal.add_anomalies-requires
@@ -23,7 +23,7 @@ add_anomalies-requires g c =
     let e = c.anomaly_lines-anomalies.ensures in
     let b = (c.in_ok-report.ensures.delivers before h.processed).brings in
     let few : c.anomaly_lines-anomalies.result < length c.args.frame.now = rw (e.number, c.in_ok-report.ensures.found before h.processed) (e.few p before c.args.frame.now c.requires.2 b.some) in
-    rw c.add.ensures (anomalies_fit (g.D.Delivery.kind p) (g.met.D.Delivery.within _ p before h.processed).adds h b.reported few)
+    rw c.add.ensures (anomalies_fit (g.D.Deliverer.kind p) (g.met.D.Deliverer.within _ p before h.processed).adds h b.reported few)
 
 pub returns-in_err-make_room-clause-fault : goal.returns-in_err-make_room-clause-fault
 returns-in_err-make_room-clause-fault g c =
@@ -47,5 +47,5 @@ returns-clause-has_listed g c = λ before h.
     let b = (c.in_ok-report.ensures.delivers before h.processed).brings in
     let found = c.in_ok-report.ensures.found before h.processed in
     let few : c.anomaly_lines-anomalies.result < length frame = rw (e.number, found) (e.few p before frame c.requires.2 b.some) in
-    rw (c.add_anomalies.ensures, c.add.ensures) (checked_more (g.D.Delivery.kind p) (g.met.D.Delivery.within _ p before h.processed).adds h b.reported few (c.in_ok-report.ensures.processed before h.processed)
+    rw (c.add_anomalies.ensures, c.add.ensures) (checked_more (g.D.Deliverer.kind p) (g.met.D.Deliverer.within _ p before h.processed).adds h b.reported few (c.in_ok-report.ensures.processed before h.processed)
     (anomalies_more _ before frame _ (rw (c.octets.ensures ∙ octets_counted h, found) at e.number)))

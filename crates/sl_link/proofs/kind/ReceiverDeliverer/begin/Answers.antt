@@ -2,7 +2,7 @@ use Rattle.std.proofs.Common.{[], subst}
 use Rattle.sl_tcflow.specs.Receiver.{HasProcessed}
 use Rattle.sl_link.specs.Link.Managed.{Parameters, reception_of}
 use Rattle.sl_link.proofs.lemmas.Kind.Tc.{none_processed}
-use Rattle.sl_link.proofs.kind.ReceiverDelivery.begin.Goals as goal
+use Rattle.sl_link.proofs.kind.ReceiverDeliverer.begin.Goals as goal
 
 pub returns : goal.returns
 returns c =

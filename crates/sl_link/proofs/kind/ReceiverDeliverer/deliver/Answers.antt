@@ -7,7 +7,7 @@ use Rattle.sl_link.specs.Link.Managed.{reception_of, tc_format}
 use Rattle.sl_link.proofs.lemmas.Kind.Delivery.{delivers_as}
 use Rattle.sl_link.proofs.lemmas.Kind.Tc.{one_processed, some_octets, is_incomplete_at_last}
 use Rattle.sl_link.proofs.lemmas.Link.Fault.{never_failed}
-use Rattle.sl_link.proofs.kind.ReceiverDelivery.deliver.Goals as goal
+use Rattle.sl_link.proofs.kind.ReceiverDeliverer.deliver.Goals as goal
 
 pub returns-in-Err-clause-processed : goal.returns-in-Err-clause-processed
 returns-in-Err-clause-processed g c =

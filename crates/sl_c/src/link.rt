@@ -67,7 +67,7 @@ pub fn managed_for(fields: &ManagedFields, octets: usize) -> Result<Managed, Ans
     Ok(
         managed
             .with_plain(plain_of(&fields.plain))
-            .with_starts(starts_of(&fields.vr)),
+            .with_starts(initial_vrs(&fields.vr)),
     )
 }
 
@@ -115,7 +115,7 @@ fn plain_of(flags: &[bool; 64]) -> VcSet
 }
 
 // The initial V(R) of each virtual channel, as `Starts` has them.
-fn starts_of(vrs: &[u8; 64]) -> Starts
+fn initial_vrs(vrs: &[u8; 64]) -> Starts
     ensures { result ≡ vrs.now }
 {
     let mut starts = Starts::all(0);

@@ -266,7 +266,7 @@ fn asked_of(verb: &str, matches: &ArgMatches<'_>) -> Asked
 {
     let vr = number_of_8_bits(matches, VR);
     let plain = plain_of(matches.get_str(PLAIN));
-    let starts = starts_of(vr, matches.get_str(VR_OF));
+    let starts = initial_vrs(vr, matches.get_str(VR_OF));
     Asked {
         verb: verb_named(verb),
         kind: kind_named(matches.get_str(KIND)),
@@ -326,7 +326,7 @@ fn plain_of(text: Option<&str>) -> Option<VcSet>
 
 // The initial V(R) of each virtual channel, `vr` where none is named, or `None` where their text is
 // refused.
-fn starts_of(vr: u8, text: Option<&str>) -> Option<Starts>
+fn initial_vrs(vr: u8, text: Option<&str>) -> Option<Starts>
     ensures { AreFrom vr (option_map (λ t. t.now) text.entry) result }
 {
     let all = Starts::all(vr);

@@ -11,7 +11,7 @@ pub returns : goal.returns
 returns c =
     let f = found_of c.args.matches.now in
     let plain = c.plain_of-plain.result in
-    let starts = c.starts_of-starts.result in
+    let starts = c.initial_vrs-starts.result in
     let of_plain = text_got f (codes "plain") c.get_str.result c.get_str.ensures in
     let of_starts = text_got f (codes "vr-of") c.get_str-2.result c.get_str-2.ensures in
     record {
@@ -20,6 +20,6 @@ returns c =
       plain = plain;
       is_plain = subst (λ (o : Option Text). IsPlain o plain) of_plain c.plain_of-plain.ensures;
       starts = starts;
-      are_from = subst (λ (p : ℕ × Option Text). AreFrom p.0 p.1 starts) (λ i. (c.number_of_8_bits-vr.ensures i, of_starts i)) c.starts_of-starts.ensures;
+      are_from = subst (λ (p : ℕ × Option Text). AreFrom p.0 p.1 starts) (λ i. (c.number_of_8_bits-vr.ensures i, of_starts i)) c.initial_vrs-starts.ensures;
       managed_is = c.with_vcs.ensures ∙ ap (λ (m : Result Parameters ManagedFault). with_vcs m plain starts) c.managed_in.ensures;
     }

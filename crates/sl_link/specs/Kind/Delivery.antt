@@ -81,7 +81,7 @@ pub record IsWithin (k : Kind) (frames : List (List ℕ)) : Type 0 where
   pub within : number_of_packets k frames + number_of_idle k frames ≤ length (concat frames)
 
 -- the report on a frame that comes after these frames
-pub record IsReport (k : Kind) (before : List (List ℕ)) (frame : List ℕ) (report : FrameReport) : Type 0 where
+pub record IsFrameReport (k : Kind) (before : List (List ℕ)) (frame : List ℕ) (report : FrameReport) : Type 0 where
   pub skipped : report.is_skipped ≡ k.is_skipped frame
   pub packets : report.packets ≡ length (without_idle (k.ended before frame))
   pub idle : report.idle ≡ length (only_idle (k.ended before frame))
@@ -90,7 +90,7 @@ pub record IsReport (k : Kind) (before : List (List ℕ)) (frame : List ℕ) (re
 -- more octets than `check` has lines for it.
 pub record Brings (k : Kind) (before : List (List ℕ)) (frame : List ℕ) (report : FrameReport) : Type 0 where
   pub some : 5 ≤ length frame
-  pub reported : IsReport k before frame report
+  pub reported : IsFrameReport k before frame report
 
 -- the packets of a frame were handed over, idle packets left out
 pub record Delivers {S : Type 0} (taking : S → ℕ → List ℕ → S → Type 0) (k : Kind) (before : List (List ℕ))

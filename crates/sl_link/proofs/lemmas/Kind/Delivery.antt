@@ -17,7 +17,7 @@ use Rattle.sl_packet.proofs.WithoutIdleLemmas.{without_idle-append}
 use Rattle.sl_link.specs.declared.tally.FrameReport.{FrameReport}
 use Rattle.sl_link.specs.Link.Totals.{Counts}
 use Rattle.sl_link.specs.Tally.{counts_more, counts_so_far, counts_with_anomalies, skipped_in, no_counts}
-use Rattle.sl_link.specs.Kind.Delivery.{AddsByChannel, AreStored, Delivers, HasDelivered, IsReport, IsWithin, Kind, count_of, number_of_idle, delivered_packets, number_of_packets, with_frame, with_packets}
+use Rattle.sl_link.specs.Kind.Delivery.{AddsByChannel, AreStored, Delivers, HasDelivered, IsFrameReport, IsWithin, Kind, count_of, number_of_idle, delivered_packets, number_of_packets, with_frame, with_packets}
 use Rattle.sl_link.proofs.lemmas.Kind.Channels.{items_change, map_range, no_items, none_of}
 
 -- ---- frames that are counted one after another
@@ -82,7 +82,7 @@ module _ (k : Kind) (laws : AddsByChannel k) where
   -- ---- one frame more
 
   module _ {had : List (List ℕ) → Type 0} {before : List (List ℕ)} {frame : List ℕ} {anomalies : ℕ} {t : Counts} {report : FrameReport}
-      (d : HasDelivered k had before anomalies t) (r : IsReport k before frame report) where
+      (d : HasDelivered k had before anomalies t) (r : IsFrameReport k before frame report) where
     counts_next : counts_more t (length frame) report
         ≡ counts_so_far k.is_skipped (before ++ frame ∷ []) (number_of_packets k (before ++ frame ∷ [])) (number_of_idle k (before ++ frame ∷ [])) anomalies
     counts_next = so_far_more k.is_skipped before frame report d.counts r.skipped (omega (arith, r.packets, packets_more before frame)) (omega (arith, r.idle, idle_more before frame))

@@ -22,7 +22,7 @@ use crate::link::totals::Totals;
 use crate::pass::CHUNK_SIZE;
 use crate::verbs::check::Check;
 use crate::verbs::list;
-use crate::verbs::packets::Packets;
+use crate::verbs::packets::ListPackets;
 use crate::verbs::show::Show;
 use crate::verbs::show::shown::TmFrames;
 use sl_tcflow::{Farms, Receiver};
@@ -212,7 +212,7 @@ pub fn packets_tm<R: Read, W: Write>(
 {
     let mut buffer = [0; CHUNK_SIZE];
     let mut framer = TmFramer::new(&managed.tm);
-    let mut verb = Packets::<Extractor>::begin(alloc, managed);
+    let mut verb = ListPackets::<Extractor>::begin(alloc, managed);
     list(managed, &mut framer, &mut verb, reader, writer, &mut buffer)
 }
 
@@ -252,6 +252,6 @@ pub fn packets_tc<R: Read, W: Write>(
 {
     let mut buffer = [0; CHUNK_SIZE];
     let mut framer = TcFramer::new(&managed.tc);
-    let mut verb = Packets::<Receiver>::begin(alloc, managed);
+    let mut verb = ListPackets::<Receiver>::begin(alloc, managed);
     list(managed, &mut framer, &mut verb, reader, writer, &mut buffer)
 }

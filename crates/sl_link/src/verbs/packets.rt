@@ -54,25 +54,25 @@ impl Printed for Receiver {
 
 /// Lists the packets that end in the frames.
 #[derive(Drop)]
-pub struct Packets<D: Printed> {
+pub struct ListPackets<D: Printed> {
     delivery: D,
     so_far: Totals,
 }
 
-impl<D: Printed> Packets<D> {
+impl<D: Printed> ListPackets<D> {
     /// No packets yet.
-    pub fn begin(alloc: Global, managed: &Managed) -> Packets<D>
+    pub fn begin(alloc: Global, managed: &Managed) -> ListPackets<D>
         ensures { HasDelivered (D.kind managed.now) (D.has_processed result.delivery managed.now)
             [] 0 result.so_far }
     {
-        Packets {
+        ListPackets {
             delivery: D::begin(alloc, managed),
             so_far: Totals::none(),
         }
     }
 }
 
-impl<D: Printed> Verb for Packets<D> {
+impl<D: Printed> Verb for ListPackets<D> {
     ghost use Rattle.sl_link.specs.Kind.Delivery.{HasDelivered};
     ghost use Rattle.sl_link.specs.Verbs.Packets.Line.{packets_listing};
 

@@ -2,7 +2,7 @@ use Rattle.std.proofs.Common.{arith, rules, ◌++◌, ◌∷◌, []}
 use Rattle.sl_link.proofs.lemmas.Kind.Delivery.{delivered_more, fits_more}
 use Rattle.sl_link.proofs.lemmas.Link.Answers.{passed_up}
 use Rattle.sl_link.proofs.lemmas.Verbs.Packets.Printer.{all_printed, lent_printing, stops_printing}
-use Rattle.sl_link.proofs.verbs.packets.PacketsVerb.frame.Goals as goal
+use Rattle.sl_link.proofs.verbs.packets.ListPacketsVerb.frame.Goals as goal
 
 pub add-requires-clause-within : goal.add-requires-clause-within
 add-requires-clause-within g c =

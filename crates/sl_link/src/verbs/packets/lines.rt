@@ -21,7 +21,7 @@ pub fn push_packet_text<W: Write>(out: &mut Output<W>, packet: &[u8]) -> Written
     ensures fault { IfErr result (StopsWriting W.contents out.old.writer.now out.new.writer.now
         (out.old.lines ++ packet_text packet.now) ⊥) }
 {
-    push_fields(&mut out.lines, packet);
+    push_fields_text(&mut out.lines, packet);
     push_octets(out, packet)?;
     out.make_room()?;
     out.lines.push(b"\n");
@@ -29,7 +29,7 @@ pub fn push_packet_text<W: Write>(out: &mut Output<W>, packet: &[u8]) -> Written
 }
 
 // Adds the fields of the primary header, and how many octets there are.
-fn push_fields(lines: &mut Lines, packet: &[u8])
+fn push_fields_text(lines: &mut Lines, packet: &[u8])
     requires packet { 6 ≤ length packet.now }
     requires room { HasRoomFor text_width lines.old }
     ensures { lines.new ≡ lines.old ++ fields_text packet.now }

@@ -1,6 +1,6 @@
 use Rattle.std.proofs.Common.{◌≡◌, ◌∙◌, ap, append_assoc, refl, take}
 use Rattle.sl_fields.specs.PacketHeader.{packet_header}
-use Rattle.sl_link.proofs.verbs.packets.lines.push_fields.Goals as goal
+use Rattle.sl_link.proofs.verbs.packets.lines.push_fields_text.Goals as goal
 
 pub returns : goal.returns
 returns c =

@@ -6,7 +6,7 @@ ghost use Rattle.sl_link.specs.Verbs.Check.Checking.{AddsAnomalies};
 
 use crate::io::lines::Lines;
 use crate::kind::{Deliverer, TcFound, TmFound};
-use crate::verbs::check::lines::{Place, event_lines};
+use crate::verbs::check::lines::{AnomalyPlace, event_lines};
 use crate::verbs::check::{lines_tc, lines_tm};
 use sl_tcflow::Receiver;
 use sl_tcframe::TcSkip;
@@ -82,7 +82,7 @@ impl Checked for Extractor {
     }
 
     fn open_lines(&self, offset: u64, channel: u16, lines: &mut Lines) -> u64 {
-        let at = Place {
+        let at = AnomalyPlace {
             offset,
             vc: u32::from(channel),
             map: None,
@@ -114,7 +114,7 @@ impl Checked for Receiver {
         // The number of a channel is 64 VC + MAP.
         let vc = (channel / 64) as u8;
         let map = (channel % 64) as u8;
-        let at = Place {
+        let at = AnomalyPlace {
             offset,
             vc: u32::from(vc),
             map: Some(u32::from(map)),

@@ -14,7 +14,7 @@ use crate::link::totals::Totals;
 /// Where an anomaly is: at a frame, or for `open` at the recording's end; on a virtual channel, and
 /// in a TC recording on a MAP. Both are `u32` as octets are: `push_some` adds a MAP or octets.
 #[derive(Clone, Copy)]
-pub struct Place {
+pub struct AnomalyPlace {
     pub offset: u64,
     pub vc: u32,
     pub map: Option<u32>,
@@ -25,7 +25,7 @@ pub struct Place {
 #[inline(always)]
 pub fn event_lines(
     lines: &mut Lines,
-    at: Place,
+    at: AnomalyPlace,
     event: &[u8],
     holds: bool,
     octets: Option<u32>,
@@ -42,8 +42,8 @@ pub fn event_lines(
     1
 }
 
-// Adds the line of an event. Takes plain numbers: given a `Place`, the compiler stores it before
-// every test, and `check` of TM frames takes 4 % more instructions.
+// Adds the line of an event. Takes plain numbers: given an `AnomalyPlace`, the compiler stores it
+// before every test, and `check` of TM frames takes 4 % more instructions.
 fn event_line(
     lines: &mut Lines,
     offset: u64,

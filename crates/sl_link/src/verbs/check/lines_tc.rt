@@ -8,7 +8,7 @@ ghost use Rattle.sl_link.specs.Verbs.Check.Tc.{check_tc_lines, discarded_anomaly
 use crate::io::lines::Lines;
 use crate::io::words::{push_tc_skip, push_verdict};
 use crate::kind::TcFound;
-use crate::verbs::check::lines::{Place, event_lines, push_part};
+use crate::verbs::check::lines::{AnomalyPlace, event_lines, push_part};
 use sl_cop::Verdict;
 use sl_tcframe::TcSkip;
 
@@ -65,7 +65,7 @@ fn tc_found_lines(lines: &mut Lines, offset: u64, found: TcFound) -> u64
     ensures text { lines.new ≡ lines.old ++ concat (check_tc_lines offset (Ok found)) }
     ensures number { result ≡ length (check_tc_lines offset (Ok found)) }
 {
-    let at = Place {
+    let at = AnomalyPlace {
         offset,
         vc: u32::from(found.vc),
         map: Some(u32::from(found.map)),

@@ -8,7 +8,7 @@ ghost use Rattle.sl_link.specs.Verbs.Check.Tm.{gap_anomaly, check_tm_lines};
 use crate::io::lines::Lines;
 use crate::io::words::push_tm_skip;
 use crate::kind::TmFound;
-use crate::verbs::check::lines::{Place, event_lines, push_part};
+use crate::verbs::check::lines::{AnomalyPlace, event_lines, push_part};
 use sl_tmframe::TmSkip;
 
 /// Adds the lines of a frame, and answers how many they are.
@@ -36,7 +36,7 @@ fn tm_found_lines(lines: &mut Lines, offset: u64, found: &TmFound) -> u64
     ensures text { lines.new ≡ lines.old ++ concat (check_tm_lines offset (Ok found.now)) }
     ensures number { result ≡ length (check_tm_lines offset (Ok found.now)) }
 {
-    let at = Place {
+    let at = AnomalyPlace {
         offset,
         vc: u32::from(found.vc),
         map: None,

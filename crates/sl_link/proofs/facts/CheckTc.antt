@@ -57,6 +57,6 @@ pub checked :
 unfolding digits map_channels
 checked = refl
 
-pub counted : check_tc_counts tc two_maps ≡ record none { octets = 58; frames = 6; packets = 2; anomalies = 2 }
+pub counts_are : check_tc_counts tc two_maps ≡ record none { octets = 58; frames = 6; packets = 2; anomalies = 2 }
 unfolding map_channels
-counted = refl
+counts_are = refl

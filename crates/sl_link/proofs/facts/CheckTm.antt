@@ -4,7 +4,7 @@ use Rattle.std.proofs.Common.{◌≡◌, ℕ, List, [], ◌∷◌, ◌++◌, cod
 use Rattle.std.specs.Fmt.{digits}
 use Rattle.sl_fields.specs.Fecf.{fecf_of, register_of}
 use Rattle.sl_link.specs.Verbs.Check.Tm.{check_tm_text, check_tm_counts}
-use Rattle.sl_link.proofs.facts.NormalForms.{with_fecf, ten, twenty_three, begun, begun_at, ended, framed, idle, one_packet, full_field, wide_filling, in_three_frames, three_copies, covered, damaged, guarded}
+use Rattle.sl_link.proofs.facts.NormalForms.{tm_with_fecf, ten, twenty_three, begun, begun_at, ended, framed, idle, one_packet, full_field, wide_filling, in_three_frames, three_copies, covered, damaged, guarded}
 use Rattle.sl_link.proofs.facts.Rows.{Have, hex, tm, none}
 
 -- of virtual channel 1, a frame of the first three octets of a packet
@@ -56,11 +56,11 @@ pub checked :
     -- and each virtual channel has its own counts
     ∷ (tm, begun_on_1 7 ++ begun ++ begun_on_1 8, codes "64 dropped vc 1 octets 3\n96 open vc 0 octets 3\n96 open vc 1 octets 3\nframes 3 skipped 0 packets 3 idle 0 anomalies 3\n")
     -- with error control: an octet of the first frame is damaged
-    ∷ (with_fecf, damaged ++ guarded, codes "0 skip fecf\nframes 2 skipped 1 packets 1 idle 1 anomalies 1\n")
+    ∷ (tm_with_fecf, damaged ++ guarded, codes "0 skip fecf\nframes 2 skipped 1 packets 1 idle 1 anomalies 1\n")
     ∷ []
     )
 unfolding digits fecf_of register_of
 checked = refl
 
-pub counted : check_tm_counts tm gap ≡ record none { octets = 64; frames = 2; packets = 2; idle = 1; anomalies = 2 }
-counted = refl
+pub counts_are : check_tm_counts tm gap ≡ record none { octets = 64; frames = 2; packets = 2; idle = 1; anomalies = 2 }
+counts_are = refl

@@ -52,8 +52,8 @@ asks verb kind parameters = ([], Some (verb, kind, parameters))
 abbrev of : ℕ → Parameters
 of scid = record tm { spacecraft = scid; tm_length = 1115 }
 
-abbrev taken : List (String × (Kinds × Option Request))
-taken =
+abbrev taken_lines : List (String × (Kinds × Option Request))
+taken_lines =
     -- each verb and each kind
     ("sllink show tm --scid 7", asks Show Tm (of 7))
     ∷ ("sllink show tc --scid 1", asks Show Tc (of 1))
@@ -87,8 +87,8 @@ taken =
     ∷ []
 
 -- the words name a verb, its kind, and each number
-abbrev complete : String → Option Bool
-complete line = option_map (λ (met : Text × List Row). is_complete met.0 met.1) (subcommand_of sllink_app (words line))
+abbrev line_is_complete : String → Option Bool
+line_is_complete line = option_map (λ (met : Text × List Row). is_complete met.0 met.1) (subcommand_of sllink_app (words line))
 
 -- each number at its greatest, and then lines of which one thing is missing or wrong
 abbrev whole : List (String × Option Bool)
@@ -189,11 +189,11 @@ wrong =
     ∷ ("sllink show tm --scid 1 --spare 10", UnknownArgument ∷ [])
     ∷ []
 
-pub lines_are_read : Have read taken
+pub lines_are_read : Have read taken_lines
 unfolding clap_on_literals
 lines_are_read = refl
 
-pub whole_lines_are_complete : Have complete whole
+pub whole_lines_are_complete : Have line_is_complete whole
 unfolding clap_on_literals
 whole_lines_are_complete = refl
 

@@ -9,7 +9,7 @@ use Rattle.sl_fields.specs.Fecf.{fecf_of, register_of}
 use Rattle.sl_link.specs.Link.Managed.{Parameters}
 use Rattle.sl_link.specs.Verbs.Show.Tc.{show_tc_text, show_tc_counts}
 use Rattle.sl_link.specs.Verbs.Show.Tm.{show_tm_text, show_tm_counts}
-use Rattle.sl_link.proofs.facts.NormalForms.{one_packet, controlled, with_fecf, damaged, guarded}
+use Rattle.sl_link.proofs.facts.NormalForms.{one_packet, controlled, tm_with_fecf, damaged, guarded}
 use Rattle.sl_link.proofs.facts.Rows.{Have, hex, tm, tc, none}
 
 -- ---- TM frames
@@ -43,7 +43,7 @@ pub tm_listed :
     ∷ (tm, headed "0010 0101 9ffe", codes "0 frame vc 0 mc 1 vcc 1 opaque\n")
     ∷ (tm, not_read, codes "0 skip spacecraft\n32 skip version\n")
     -- with error control: an octet of the first frame is damaged
-    ∷ (with_fecf, damaged ++ guarded, codes "0 skip fecf\n34 frame vc 0 mc 0 vcc 0 first 0\n")
+    ∷ (tm_with_fecf, damaged ++ guarded, codes "0 skip fecf\n34 frame vc 0 mc 0 vcc 0 first 0\n")
     ∷ []
     )
 unfolding digits encode_with fecf_of register_of

@@ -89,8 +89,8 @@ covering = begun ++ framed 1 1 "1fff" covered
 abbrev pub controlled : String → List ℕ
 controlled word = hex "0011 0000 1800" ++ ten ++ hex "07ff c000 0005" ++ replicate 6 0 ++ hex word
 
-abbrev pub with_fecf : Parameters
-with_fecf = record tm { tm_length = 34; tm_fecf = true }
+abbrev pub tm_with_fecf : Parameters
+tm_with_fecf = record tm { tm_length = 34; tm_fecf = true }
 
 abbrev pub guarded : List ℕ
 guarded = one_packet ++ hex "5e0c"
@@ -132,7 +132,7 @@ pub normal_forms :
     -- a CLCW and another report are left out, as is error control, and a frame with a wrong field is skipped
     ∷ (tm, controlled "01002805", one_packet)
     ∷ (tm, controlled "80000000", one_packet)
-    ∷ (with_fecf, damaged ++ guarded, guarded)
+    ∷ (tm_with_fecf, damaged ++ guarded, guarded)
     ∷ []
     )
 unfolding idle_packet fecf_of register_of tm_form_of

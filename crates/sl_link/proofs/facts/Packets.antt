@@ -15,24 +15,24 @@ abbrev other_fields : List ℕ
 other_fields = framed 0 0 "1800" (hex "1bfe 7fff 0000 99 07ff c000 000c" ++ replicate 13 0)
 
 -- a packet that begins on virtual channel 1, a frame of virtual channel 0, and the end of that packet
-abbrev in_turn : List ℕ
-in_turn = hex "0012 0000 1817" ++ replicate 23 0x44 ++ hex "0003c0" ++ one_packet ++ hex "0012 0101 1807" ++ ended
+abbrev packets_in_turn : List ℕ
+packets_in_turn = hex "0012 0000 1817" ++ replicate 23 0x44 ++ hex "0003c0" ++ one_packet ++ hex "0012 0101 1807" ++ ended
 
-pub tm_packets :
+pub tm_packets_listed :
     Have packets_tm_text (
     (tm, [], [])
     ∷ (tm, one_packet, codes "vc 0 apid 1 type 0 secondary 0 flags 3 count 0 octets 10 0001c0000003aabbccdd\n")
     ∷ (tm, other_fields, codes "vc 0 apid 1022 type 1 secondary 1 flags 1 count 16383 octets 7 1bfe7fff000099\n")
     -- by the frames in which they end, and then by their starts
     ∷ (tm, in_three_frames, codes "vc 0 apid 2 type 0 secondary 0 flags 3 count 5 octets 23 0002c00500101111111111111111111111111111111111\nvc 0 apid 3 type 0 secondary 0 flags 3 count 0 octets 10 0003c000000301020304\nvc 0 apid 1 type 0 secondary 0 flags 3 count 0 octets 10 0001c0000003aabbccdd\n")
-    ∷ (tm, in_turn, codes "vc 0 apid 1 type 0 secondary 0 flags 3 count 0 octets 10 0001c0000003aabbccdd\nvc 1 apid 3 type 0 secondary 0 flags 3 count 0 octets 10 0003c000000301020304\nvc 1 apid 1 type 0 secondary 0 flags 3 count 0 octets 10 0001c0000003aabbccdd\n")
+    ∷ (tm, packets_in_turn, codes "vc 0 apid 1 type 0 secondary 0 flags 3 count 0 octets 10 0001c0000003aabbccdd\nvc 1 apid 3 type 0 secondary 0 flags 3 count 0 octets 10 0003c000000301020304\nvc 1 apid 1 type 0 secondary 0 flags 3 count 0 octets 10 0001c0000003aabbccdd\n")
     ∷ (tm, two_channels, codes "vc 1 apid 1 type 0 secondary 0 flags 3 count 0 octets 10 0001c0000003aabbccdd\nvc 0 apid 1 type 0 secondary 0 flags 3 count 0 octets 10 0001c0000003aabbccdd\n")
     -- an incomplete packet has no line, and one that is broken off none either
     ∷ (tm, begun ++ framed 2 2 "1807" ended ++ hex "0010", codes "vc 0 apid 2 type 0 secondary 0 flags 3 count 5 octets 23 0002c00500101111111111111111111111111111111111\nvc 0 apid 1 type 0 secondary 0 flags 3 count 0 octets 10 0001c0000003aabbccdd\n")
     ∷ []
     )
 unfolding digits encode_with
-tm_packets = refl
+tm_packets_listed = refl
 
 -- of virtual channel 5 and MAP 9 in type BD, a packet and what follows it, which is none
 abbrev bd_on_5 : List ℕ
@@ -42,7 +42,7 @@ bd_on_5 = bd 5 (hex "c9 1002 c001 0000 ee 77")
 abbrev three_in_one : List ℕ
 three_in_one = ad 0 0 (hex "c0 1002 c001 0000 ee 07ff c000 0000 00 1002 c002 0000 ef")
 
-pub tc_packets :
+pub tc_packets_listed :
     Have packets_tc_text (
     (tc, [], [])
     ∷ (tc, carrying 0, codes "vc 0 map 0 apid 1 type 1 secondary 0 flags 3 count 0 octets 10 1001c0000003aabbccdd\n")
@@ -58,4 +58,4 @@ pub tc_packets :
     ∷ []
     )
 unfolding digits encode_with
-tc_packets = refl
+tc_packets_listed = refl

@@ -20,25 +20,25 @@ told packets form_of deliver = grind arith
 
 -- ---- TM
 
-pub tm_form_delivers : (p : Parameters) (recording : List ℕ) → managed_of p ≡ Ok p → tm_packets p (tm_normal_form p recording) ≡ tm_packets p recording
+pub tm_normal_form_delivers : (p : Parameters) (recording : List ℕ) → managed_of p ≡ Ok p → tm_packets p (tm_normal_form p recording) ≡ tm_packets p recording
 unfolding tm_form_of
-tm_form_delivers p recording are =
+tm_normal_form_delivers p recording are =
     let range = managed_length p are in
     delivers (tm_format p) p.spacecraft (tm_packets p recording) (record { least = range.0; most = range.1 }) (managed_spacecraft p are)
     (tm_recording.recorded_lists_are_deliverable (tm_format p) p.spacecraft recording)
 
 pub tm_forms_tell_packets : TmFormsTellPackets
-tm_forms_tell_packets p are = told (tm_packets p) (tm_form_of p) (λ recording. tm_form_delivers p recording are.allowed)
+tm_forms_tell_packets p are = told (tm_packets p) (tm_form_of p) (λ recording. tm_normal_form_delivers p recording are.allowed)
 
 -- ---- TC
 
-tc_form_delivers : (p : Parameters) (recording : List ℕ) → AreAccepted p → tc_packets p (tc_normal_form p recording) ≡ tc_packets p recording
+tc_normal_form_delivers : (p : Parameters) (recording : List ℕ) → AreAccepted p → tc_packets p (tc_normal_form p recording) ≡ tc_packets p recording
 unfolding tc_form_of
-tc_form_delivers p recording are =
+tc_normal_form_delivers p recording are =
     let range = managed_greatest p are.allowed in
     normal_form_delivers (tc_format p) p.spacecraft (reception_of p) (tc_packets p recording) (record { least = range.0; most = range.1 }) (managed_spacecraft p are.allowed) are.starts
     (tc_recording.recorded_lists_are_deliverable (tc_format p) p.spacecraft (reception_of p) recording)
     (recorded_lists_fit (tc_format p) p.spacecraft (reception_of p) recording)
 
 pub tc_forms_tell_packets : TcFormsTellPackets
-tc_forms_tell_packets p are = told (tc_packets p) (tc_form_of p) (λ recording. tc_form_delivers p recording are)
+tc_forms_tell_packets p are = told (tc_packets p) (tc_form_of p) (λ recording. tc_normal_form_delivers p recording are)

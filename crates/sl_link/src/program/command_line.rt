@@ -203,8 +203,8 @@ fn link_options<'a>(alloc: Global) -> Result<Vec<Arg<'a>>, AllocError>
     let tm_length = number_or(text(alloc, TM_LENGTH, "OCTETS", help), short, "1115");
     let help = "Greatest length of a TC frame in octets, 16 to 1024";
     let tc_length = number_or(text(alloc, TC_LENGTH, "OCTETS", help), short, "1024");
-    let tm_fecf = flag(alloc, TM_FECF, "TM frames have a frame error control field");
-    let tc_fecf = flag(alloc, TC_FECF, "TC frames have a frame error control field");
+    let tm_fecf = flag_option(alloc, TM_FECF, "TM frames have a frame error control field");
+    let tc_fecf = flag_option(alloc, TC_FECF, "TC frames have a frame error control field");
     let help = "Width of the FARM-1 sliding window in frames, even, 2 to 254";
     let window = number_or(text(alloc, WINDOW, "WIDTH", help), byte, "10");
     let help = "V(R) with which each FARM-1 begins, 0 to 255";
@@ -231,7 +231,7 @@ fn text<'a>(alloc: Global, name: &'a str, unit: &'a str, help: &'a str) -> Arg<'
 fn needed_number<'a>(option: Arg<'a>, range: ValueParser<'a>) -> Arg<'a>
     ensures { rule_of result ≡ needed (with_numbers (rule_of option.entry) range.entry) }
 {
-    number(option, range).required(true)
+    numeric(option, range).required(true)
 }
 
 // This option, with a number as its value, and this number where it is left out.
@@ -239,18 +239,18 @@ fn number_or<'a>(option: Arg<'a>, range: ValueParser<'a>, default: &'a str) -> A
     ensures { rule_of result
         ≡ with_default (with_numbers (rule_of option.entry) range.entry) default.entry.now }
 {
-    number(option, range).default_value(default)
+    numeric(option, range).default_value(default)
 }
 
 // This option, with a number as its value in place of any text.
-fn number<'a>(option: Arg<'a>, range: ValueParser<'a>) -> Arg<'a>
+fn numeric<'a>(option: Arg<'a>, range: ValueParser<'a>) -> Arg<'a>
     ensures { rule_of result ≡ with_numbers (rule_of option.entry) range.entry }
 {
     option.value_parser(range)
 }
 
 // An option that takes no value.
-fn flag<'a>(alloc: Global, name: &'a str, help: &'a str) -> Arg<'a>
+fn flag_option<'a>(alloc: Global, name: &'a str, help: &'a str) -> Arg<'a>
     ensures { rule_of result ≡ flag_rule name.entry.now }
 {
     Arg::new(alloc, name)

@@ -124,7 +124,7 @@ fn run_asked<R: Read, W: Write, E: Write>(
             Ok(totals) if totals.anomalies() == 0 => SUCCESS,
             // by `check`: no other engine counts anomalies
             Ok(_) => ANOMALIES,
-            Err(fault) => report(fault, errors),
+            Err(fault) => report_fault(fault, errors),
         },
         Err(refused) => {
             let _ = writeln!(errors, "sllink: managed: {refused}");
@@ -165,7 +165,7 @@ fn flush<W: Write>(writer: &mut Counted<W>) -> Result<(), LinkFault>
 }
 
 // Names a fault on the error output, and returns the exit status.
-fn report<E: Write>(fault: LinkFault, errors: &mut E) -> u8
+fn report_fault<E: Write>(fault: LinkFault, errors: &mut E) -> u8
     ensures { result ≡ 3 }
 {
     let _ = writeln!(errors, "sllink: {fault}");
@@ -198,10 +198,10 @@ fn report_refusal<W: Write, E: Write>(
     match refusal.kind() {
         ErrorKind::DisplayHelp => match help_text(alloc, refusal) {
             Ok(text) => answer(text.as_str(), writer, errors),
-            Err(_) => report(LinkFault::Memory, errors),
+            Err(_) => report_fault(LinkFault::Memory, errors),
         },
         ErrorKind::DisplayVersion => answer(VERSION_LINE, writer, errors),
-        ErrorKind::OutOfMemory => report(LinkFault::Memory, errors),
+        ErrorKind::OutOfMemory => report_fault(LinkFault::Memory, errors),
         _ => {
             let _ = write!(errors, "{refusal}");
             REFUSED
@@ -227,7 +227,7 @@ fn answer<W: Write, E: Write>(text: &str, writer: &mut Counted<W>, errors: &mut 
 {
     match write_and_flush(text, writer) {
         Ok(()) => SUCCESS,
-        Err(fault) => report(fault, errors),
+        Err(fault) => report_fault(fault, errors),
     }
 }
 

@@ -6,8 +6,8 @@ abbrev pub lines_size : ℕ
 lines_size = 0x10000
 
 -- the octets that are kept free before lines are added
-abbrev pub reserve : ℕ
-reserve = 1024
+abbrev pub frame_room : ℕ
+frame_room = 1024
 
 -- after these lines there is room for some octets more
 abbrev pub HasRoomFor : ℕ → List ℕ → Type 0
@@ -15,12 +15,12 @@ HasRoomFor octets lines = length lines + octets ≤ lines_size
 
 -- after these lines there is room for the lines of one frame more
 abbrev pub HasRoom : List ℕ → Type 0
-HasRoom lines = HasRoomFor reserve lines
+HasRoom lines = HasRoomFor frame_room lines
 
 -- ---- How long the parts of a line are at most, in octets: a part has no more. Room for the octets of a
 -- packet is made as they are added.
 
--- a line that isn't a packet's; the reserve has room for five of a frame, 1000 octets
+-- a line that isn't a packet's; frame_room is enough for five of a frame, 1000 octets
 abbrev pub line_width : ℕ
 line_width = 200
 

@@ -1,7 +1,7 @@
 //! Lines of a listing, put together in a buffer before they are written.
 ghost use Rattle.std.specs.Prelude.{◌≡◌, ◌+◌, ◌*◌, ◌^◌, ◌≤◌, ◌<◌, [], ◌++◌, length, decimal, drop, nat_lt, take};
 ghost use Rattle.hex.specs.Hex.{encode_lower};
-ghost use Rattle.sl_link.specs.Io.Lines.{HasRoomFor, lines_size, number_width, reserve};
+ghost use Rattle.sl_link.specs.Io.Lines.{HasRoomFor, lines_size, number_width, frame_room};
 
 use crate::io::digits::Decimals;
 use crate::io::hexadecimal::Hexadecimals;
@@ -13,7 +13,7 @@ pub const LINES_SIZE: usize = 0x10000;
 
 /// Octets that are kept free in that buffer: the lines of a frame, those of its packets aside, take
 /// no more.
-pub const RESERVE: usize = 1024;
+pub const FRAME_ROOM: usize = 1024;
 
 /// Lines of a listing that are not written yet, 65536 octets at most.
 #[derive(Drop)]
@@ -64,11 +64,11 @@ impl Lines {
         &self.text.as_slice()[..self.len]
     }
 
-    /// Whether fewer than `RESERVE` octets are free, so that the lines of a frame may not fit.
+    /// Whether fewer than `FRAME_ROOM` octets are free, so that the lines of a frame may not fit.
     pub fn lacks_room_for_a_frame(&self) -> bool
-        ensures { result ≡ nat_lt lines_size (length self.now + reserve) }
+        ensures { result ≡ nat_lt lines_size (length self.now + frame_room) }
     {
-        self.len + RESERVE > LINES_SIZE
+        self.len + FRAME_ROOM > LINES_SIZE
     }
 
     /// How many octets more there is room for.

@@ -22,7 +22,7 @@ pub struct Output<'a, W: Write> {
 }
 
 impl<'a, W: Write> Output<'a, W> {
-    /// Makes room for the lines of a frame: writes the lines so far where fewer than `RESERVE`
+    /// Makes room for the lines of a frame: writes the lines so far where fewer than `FRAME_ROOM`
     /// octets are free.
     #[inline(always)]
     pub fn make_room(&mut self) -> Written

@@ -1,5 +1,7 @@
 -- What proofs stand on: lemmas over the definitions, in the same folders as these.
 
+-- chunks divided into frames
+pub mod Framing
 -- lines that wait, digits, and streams
 pub mod Io
 -- what the frames of a kind deliver
@@ -8,8 +10,6 @@ pub mod Kind
 pub mod Link
 -- normal forms, written and compared
 pub mod Normalise
--- chunks divided into frames
-pub mod Pass
 -- the command line, and a run
 pub mod Program
 -- the listings

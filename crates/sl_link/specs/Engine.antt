@@ -15,9 +15,9 @@ use Rattle.sl_link.specs.Link.Managed.{Parameters}
 use Rattle.sl_link.specs.Link.Totals.{Counts}
 use Rattle.sl_link.specs.Normalise.Tc.{tc_normal_form}
 use Rattle.sl_link.specs.Normalise.Tm.{tm_normal_form}
-use Rattle.sl_link.specs.Pass.{chunk_size}
-use Rattle.sl_link.specs.Pass.Tc.{tc_frames}
-use Rattle.sl_link.specs.Pass.Tm.{tm_frames}
+use Rattle.sl_link.specs.Framing.{chunk_size}
+use Rattle.sl_link.specs.Framing.Tc.{tc_frames}
+use Rattle.sl_link.specs.Framing.Tm.{tm_frames}
 use Rattle.sl_link.specs.Verbs.Check.Tc.{check_tc_text, check_tc_counts}
 use Rattle.sl_link.specs.Verbs.Check.Tm.{check_tm_text, check_tm_counts}
 use Rattle.sl_link.specs.Verbs.Packets.Tc.{packets_tc_text}

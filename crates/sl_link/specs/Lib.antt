@@ -1,9 +1,9 @@
 pub mod Engine
+pub mod Framing
 pub mod Io
 pub mod Kind
 pub mod Link
 pub mod Normalise
-pub mod Pass
 pub mod Program
 pub mod Same
 pub mod Tally

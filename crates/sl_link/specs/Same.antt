@@ -9,7 +9,7 @@ use Rattle.sl_link.specs.Io.Streams.{ReadsAll}
 use Rattle.sl_link.specs.Kind.Tc.{MayRefuseStoreMemoryTc}
 use Rattle.sl_link.specs.Kind.Tm.{MayRefuseStoreMemoryTm}
 use Rattle.sl_link.specs.Link.Managed.{Parameters, tc_format}
-use Rattle.sl_link.specs.Pass.{MayRefuseMemoryIn}
+use Rattle.sl_link.specs.Framing.{MayRefuseMemoryIn}
 
 module _ {A B : Type 0} (remaining : A → Option (List ℕ)) (others : B → Option (List ℕ)) where
   -- Both recordings were read, `limit` octets of each at most, and the answer is true exactly where

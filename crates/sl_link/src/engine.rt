@@ -1,7 +1,7 @@
 //! The engines, by what is done with a recording and by the kind of its frames.
 ghost use Rattle.std.specs.Prelude.{◌≡◌, IfOk, IfErr};
 ghost use Rattle.sl_link.specs.Engine.{HasWritten, IsStoppedBy, MayRefuseEngineMemory, engine_frames};
-ghost use Rattle.sl_link.specs.Pass.{MayRefuseMemoryAtSome};
+ghost use Rattle.sl_link.specs.Framing.{MayRefuseMemoryAtSome};
 
 use crate::link::counted::Counted;
 use crate::link::fault::LinkFault;

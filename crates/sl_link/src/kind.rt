@@ -143,7 +143,7 @@ impl Model for TcFound {
 
 impl Deliverer for Extractor {
     ghost use Rattle.sl_link.specs.Kind.Tm.{HasProcessedTm, IsIncompleteAtLastTm, tm_found, tm_kind};
-    ghost use Rattle.sl_link.specs.Pass.Tm.{is_tm_frame};
+    ghost use Rattle.sl_link.specs.Framing.Tm.{is_tm_frame};
 
     type Found = Result<TmFound, TmSkip>;
 
@@ -200,7 +200,7 @@ impl Deliverer for Extractor {
 
 impl Deliverer for Receiver {
     ghost use Rattle.sl_link.specs.Kind.Tc.{HasProcessedTc, IsIncompleteAtLastTc, tc_found, tc_kind};
-    ghost use Rattle.sl_link.specs.Pass.Tc.{is_tc_frame};
+    ghost use Rattle.sl_link.specs.Framing.Tc.{is_tc_frame};
 
     type Found = Result<TcFound, TcSkip>;
 

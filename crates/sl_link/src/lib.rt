@@ -20,13 +20,13 @@
 #![tactic(auto)]
 
 mod engine;
+mod framing;
 mod io;
 mod kind;
 pub mod laws;
 mod link;
 mod listings;
 mod normalise;
-mod pass;
 mod program;
 mod same;
 mod tally;

@@ -13,13 +13,13 @@ ghost use Rattle.sl_link.specs.Verbs.Packets.Tm.{packets_tm_text};
 ghost use Rattle.sl_link.specs.Verbs.Show.Tc.{show_tc_counts, show_tc_text};
 ghost use Rattle.sl_link.specs.Verbs.Show.Tm.{show_tm_counts, show_tm_text};
 ghost use Rattle.sl_link.specs.Io.Streams.{Stops, Translates, TranslatesWithTotals};
-ghost use Rattle.sl_link.specs.Pass.{MayRefuseMemoryAtSome, chunk_size};
+ghost use Rattle.sl_link.specs.Framing.{MayRefuseMemoryAtSome, chunk_size};
 
+use crate::framing::CHUNK_SIZE;
 use crate::link::counted::Counted;
 use crate::link::fault::LinkFault;
 use crate::link::managed::Managed;
 use crate::link::totals::Totals;
-use crate::pass::CHUNK_SIZE;
 use crate::verbs::check::Check;
 use crate::verbs::list;
 use crate::verbs::packets::ListPackets;

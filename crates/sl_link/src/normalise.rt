@@ -11,17 +11,17 @@ ghost use Rattle.sl_link.specs.Normalise.Tc.{tc_normal_form};
 ghost use Rattle.sl_link.specs.Normalise.Tm.{tm_normal_form};
 ghost use Rattle.sl_link.specs.Tally.{listing_counts};
 ghost use Rattle.sl_link.specs.Io.Streams.{IsRead, KeepsPackets, Stops, StopsReading, StopsWriting, Translates, TranslatesWithTotals, WritesText};
-ghost use Rattle.sl_link.specs.Pass.{MayRefuseMemoryAtSome, MayRefuseMemoryIn, chunk_size};
+ghost use Rattle.sl_link.specs.Framing.{MayRefuseMemoryAtSome, MayRefuseMemoryIn, chunk_size};
 
 mod form;
 
+use crate::framing::{CHUNK_SIZE, FrameSink, Framer, deliver_chunk, read_recording};
 use crate::kind::Deliverer;
 use crate::link::counted::Counted;
 use crate::link::fault::LinkFault;
 use crate::link::managed::Managed;
 use crate::link::totals::Totals;
 use crate::normalise::form::write_form;
-use crate::pass::{CHUNK_SIZE, FrameSink, Framer, deliver_chunk, read_recording};
 use sl_packet::Delivered;
 use sl_tcflow::{Receiver, TcForm};
 use sl_tcframe::TcFramer;

@@ -7,15 +7,15 @@ ghost use Rattle.sl_link.specs.Kind.Delivery.{MayRefuseStoreMemory, packets_by_c
 ghost use Rattle.sl_link.specs.Kind.Tc.{MayRefuseStoreMemoryTc, tc_packets};
 ghost use Rattle.sl_link.specs.Kind.Tm.{MayRefuseStoreMemoryTm, tm_packets};
 ghost use Rattle.sl_link.specs.Link.Managed.{tc_format};
-ghost use Rattle.sl_link.specs.Pass.{MayRefuseMemoryAtSome, MayRefuseMemoryIn, chunk_size};
+ghost use Rattle.sl_link.specs.Framing.{MayRefuseMemoryAtSome, MayRefuseMemoryIn, chunk_size};
 ghost use Rattle.sl_link.specs.Same.{ComparesPackets, MayRefuseStoreMemoryInTc, MayRefuseStoreMemoryInTm, StopsInMemory};
 
+use crate::framing::Framer;
 use crate::kind::Deliverer;
 use crate::link::counted::Counted;
 use crate::link::fault::LinkFault;
 use crate::link::managed::Managed;
 use crate::normalise::{store_packets, store_packets_in_memory};
-use crate::pass::Framer;
 use sl_tcflow::Receiver;
 use sl_tcframe::TcFramer;
 use sl_tmflow::Extractor;

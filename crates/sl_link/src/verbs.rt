@@ -9,13 +9,13 @@ pub mod check;
 pub mod packets;
 pub mod show;
 
+use crate::framing::{FrameSink, Framer, read_recording};
 use crate::io::lines::Lines;
 use crate::io::output::{Output, Written};
 use crate::link::counted::Counted;
 use crate::link::fault::LinkFault;
 use crate::link::managed::Managed;
 use crate::link::totals::Totals;
-use crate::pass::{FrameSink, Framer, read_recording};
 use std::io::{Read, Write};
 
 /// A verb that lists, `show`, `check` or `packets`, for one kind of frames. A clause with `before`

@@ -15,7 +15,7 @@ use Rattle.sl_tcflow.specs.Recording.{map_channels, packets_of_channel, tc_lists
 use Rattle.sl_link.specs.Kind.Delivery.{IsWithin, Kind, MayRefuseStoreMemory, count_of, counts_in, number_of_idle, number_of_packets}
 use Rattle.sl_link.specs.Link.Managed.{Parameters, reception_of, tc_format}
 use Rattle.sl_link.specs.Link.Totals.{Counts}
-use Rattle.sl_link.specs.Pass.Tc.{tc_frames}
+use Rattle.sl_link.specs.Framing.Tc.{tc_frames}
 use Rattle.sl_link.specs.Tally.{listing_counts}
 
 -- a frame of a recording, as it is read

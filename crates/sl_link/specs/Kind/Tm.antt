@@ -10,7 +10,7 @@ use Rattle.sl_tmflow.specs.Recording.{packets_of_channel, tm_lists, virtual_chan
 use Rattle.sl_link.specs.Kind.Delivery.{IsWithin, Kind, MayRefuseStoreMemory, counts_in}
 use Rattle.sl_link.specs.Link.Managed.{Parameters, tm_format}
 use Rattle.sl_link.specs.Link.Totals.{Counts}
-use Rattle.sl_link.specs.Pass.Tm.{tm_frames}
+use Rattle.sl_link.specs.Framing.Tm.{tm_frames}
 use Rattle.sl_link.specs.Tally.{listing_counts}
 
 -- a frame of a recording, as it is read

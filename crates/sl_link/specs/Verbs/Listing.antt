@@ -5,7 +5,7 @@ use Rattle.sl_link.specs.declared.link.fault.LinkFault.{LinkFault}
 use Rattle.sl_link.specs.declared.link.fault.LinkFault.TheVariants.{Memory}
 use Rattle.sl_link.specs.Io.Streams.{Stops, Translates, TranslatesWithTotals}
 use Rattle.sl_link.specs.Link.Totals.{Counts}
-use Rattle.sl_link.specs.Pass.{MayRefuseMemoryAtSome}
+use Rattle.sl_link.specs.Framing.{MayRefuseMemoryAtSome}
 use Rattle.sl_link.specs.Tally.{listing_counts, remainder_after}
 
 -- frames, as octets

@@ -2,15 +2,15 @@
 ghost use Rattle.std.specs.Prelude.{◌≡◌, ◌≢◌, ◌≤◌, [], IfErr, OnOk, vec_len};
 ghost use Rattle.std.specs.Vec.{vec_capacity};
 ghost use Rattle.sl_link.specs.Io.Streams.{AddsText, StopsWriting, WritesText};
-ghost use Rattle.sl_link.specs.Pass.{chunk_size};
+ghost use Rattle.sl_link.specs.Framing.{chunk_size};
 
 mod tc;
 mod tm;
 
+use crate::framing::CHUNK_SIZE;
 use crate::io::streams::write_text;
 use crate::link::counted::Counted;
 use crate::link::fault::LinkFault;
-use crate::pass::CHUNK_SIZE;
 use std::alloc::Global;
 use std::io::Write;
 

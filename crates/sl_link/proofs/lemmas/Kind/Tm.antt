@@ -14,7 +14,7 @@ use Rattle.sl_tmflow.proofs.lemmas.Delivery.Push.{delivered_push, ended_few}
 use Rattle.sl_link.specs.Kind.Tm.{HasProcessedTm, IsIncompleteAtLastTm, as_read, ended_in, tm_kind, vc_of}
 use Rattle.sl_link.specs.Kind.Delivery.{AddsByChannel, with_frame}
 use Rattle.sl_link.specs.Link.Managed.{Parameters, managed_of, tm_format}
-use Rattle.sl_link.specs.Pass.Tm.{is_tm_frame}
+use Rattle.sl_link.specs.Framing.Tm.{is_tm_frame}
 use Rattle.sl_link.proofs.lemmas.Kind.Delivery.{idle_more, none_within, octets_more, packets_more, views_next}
 use Rattle.sl_link.proofs.lemmas.Link.Managed.{managed_length}
 

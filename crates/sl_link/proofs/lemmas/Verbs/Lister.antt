@@ -8,7 +8,7 @@ use Rattle.sl_link.specs.Verbs.Listing.{Frames, lines_from, EndsListing, Listing
 use Rattle.sl_link.specs.declared.link.counted.Counted.{Counted}
 use Rattle.sl_link.specs.Link.Counted.{faults_of}
 use Rattle.sl_link.specs.Io.Streams.{Reads, StopsWriting, Translates, WritesPrefix}
-use Rattle.sl_link.specs.Pass.{PassesOver, StopsPassing, MayRefuseMemoryAtSome}
+use Rattle.sl_link.specs.Framing.{PassesOver, StopsPassing, MayRefuseMemoryAtSome}
 use Rattle.sl_link.specs.Link.Totals.{Counts}
 use Rattle.sl_link.specs.Tally.{remainder_after}
 use Rattle.sl_link.proofs.lemmas.Io.Streams.{adds_both, stops_then, adds_none, reader_caused, stops_first, stops_last, writer_caused}

@@ -2,7 +2,7 @@ use Rattle.std.proofs.Common.{[], ◌∙◌, List, ℕ, ap, arith, subst, sym}
 use Rattle.sl_link.specs.Kind.Delivery.{AreStored}
 use Rattle.sl_link.proofs.lemmas.Kind.Delivery.{none_delivered, none_stored}
 use Rattle.sl_link.proofs.lemmas.Link.Answers.{passed_up}
-use Rattle.sl_link.proofs.lemmas.Pass.Reading.{refused_in, taken_none}
+use Rattle.sl_link.proofs.lemmas.Framing.Reading.{refused_in, taken_none}
 use Rattle.sl_link.proofs.normalise.store_packets_in_memory.Goals as goal
 
 pub deliver_chunk-requires : goal.deliver_chunk-requires

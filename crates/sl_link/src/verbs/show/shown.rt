@@ -55,7 +55,7 @@ pub struct TmFrames;
 
 impl Shown for TmFrames {
     ghost use Rattle.std.specs.Prelude.{⊤};
-    ghost use Rattle.sl_link.specs.Pass.Tm.{is_tm_frame};
+    ghost use Rattle.sl_link.specs.Framing.Tm.{is_tm_frame};
     ghost use Rattle.sl_link.specs.Verbs.Show.Tm.{tm_is_skipped, show_tm_line};
 
     ghost is_frame = { is_tm_frame };
@@ -78,7 +78,7 @@ impl Shown for TmFrames {
 }
 
 impl Shown for Farms {
-    ghost use Rattle.sl_link.specs.Pass.Tc.{is_tc_frame};
+    ghost use Rattle.sl_link.specs.Framing.Tc.{is_tc_frame};
     ghost use Rattle.sl_tcflow.specs.AcceptedUnit.{views_of};
     ghost use Rattle.sl_tcflow.specs.Farms.{HaveStepped};
     ghost use Rattle.sl_link.specs.Link.Managed.{reception_of, tc_format};

@@ -13,7 +13,7 @@ use Rattle.sl_link.specs.Verbs.Check.Tc.{discarded_anomaly, incomplete_anomaly, 
 use Rattle.sl_link.specs.Kind.Tc.{TcFinding, as_read, unit_channel_of, found_after, tc_found, tc_kind}
 use Rattle.sl_link.specs.Kind.Delivery.{with_frame}
 use Rattle.sl_link.specs.Link.Managed.{Parameters, reception_of, tc_format}
-use Rattle.sl_link.specs.Pass.Tc.{is_tc_frame}
+use Rattle.sl_link.specs.Framing.Tc.{is_tc_frame}
 use Rattle.sl_link.proofs.lemmas.Kind.Delivery.{views_next}
 use Rattle.sl_link.proofs.lemmas.Kind.Tc.{tc_adds_by_channel}
 use Rattle.sl_link.proofs.lemmas.Verbs.Check.Lines.{one_event}

@@ -14,7 +14,7 @@ use Rattle.sl_tmflow.proofs.lemmas.Incomplete.List.{one_is_incomplete, incomplet
 use Rattle.sl_link.specs.Kind.Delivery.{with_frame}
 use Rattle.sl_link.specs.Kind.Tm.{TmFinding, as_read, tm_found, tm_kind, vc_of}
 use Rattle.sl_link.specs.Link.Managed.{Parameters, tm_format}
-use Rattle.sl_link.specs.Pass.Tm.{is_tm_frame}
+use Rattle.sl_link.specs.Framing.Tm.{is_tm_frame}
 use Rattle.sl_link.specs.Verbs.Check.Lines.{event_anomaly, event_line}
 use Rattle.sl_link.specs.Verbs.Check.Tm.{gap_anomaly, check_tm_lines, tm_open}
 use Rattle.sl_link.proofs.lemmas.Kind.Delivery.{views_next}

@@ -1,7 +1,7 @@
 use Rattle.std.proofs.Common.{◌≤◌, ◌++◌, [], length}
 use Rattle.std.specs.Vec.{vec_len, vec_capacity}
 use Rattle.sl_link.specs.Io.Streams.{AddsText}
-use Rattle.sl_link.specs.Pass.{chunk_size}
+use Rattle.sl_link.specs.Framing.{chunk_size}
 use Rattle.sl_link.proofs.normalise.form.write_form.Given as goal
 
 abbrev pub invariant-loop-text : goal.invariant-loop-text

@@ -4,7 +4,7 @@ use Rattle.std.specs.List.{concat, AllByRecursion}
 use Rattle.std.proofs.KnownBytes.{Consumes-nil, Consumes-trans}
 use Rattle.sl_fields.proofs.ListLemmas.{concat-push, each-append}
 use Rattle.sl_link.specs.Link.Managed.{Parameters}
-use Rattle.sl_link.specs.Pass.{CutsFrame, HasCutFrames, HasCutAll, MayRefuseMemoryIn, StopsPassing}
+use Rattle.sl_link.specs.Framing.{CutsFrame, HasCutFrames, HasCutAll, MayRefuseMemoryIn, StopsPassing}
 use Rattle.sl_link.specs.declared.link.counted.Counted.{Counted}
 use Rattle.sl_link.specs.declared.link.fault.LinkFault.{LinkFault}
 use Rattle.sl_link.specs.declared.link.fault.LinkFault.TheVariants.{Memory}

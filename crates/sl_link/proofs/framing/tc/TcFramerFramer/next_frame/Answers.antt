@@ -1,7 +1,7 @@
 use Rattle.std.proofs.Common.{refl}
 use Rattle.sl_link.proofs.lemmas.Link.Answers.{both_some, none_then}
-use Rattle.sl_link.proofs.lemmas.Pass.Tc.{cuts, cuts_none, waits_next}
-use Rattle.sl_link.proofs.pass.tc.TcFramerFramer.next_frame.Goals as goal
+use Rattle.sl_link.proofs.lemmas.Framing.Tc.{cuts, cuts_none, waits_next}
+use Rattle.sl_link.proofs.framing.tc.TcFramerFramer.next_frame.Goals as goal
 
 pub returns : goal.returns
 returns c =

@@ -5,8 +5,8 @@ use Rattle.std.specs.Borrow.{Bor}
 use Rattle.sl_tmframe.specs.TmFraming.{HasTakenTm, TmFraming, UsesUpChunk, YieldsFrame}
 use Rattle.sl_tmframe.proofs.DelimitedLemmas.{frames_of-short}
 use Rattle.sl_link.specs.Link.Managed.{Parameters}
-use Rattle.sl_link.specs.Pass.{CutsFrame, WaitsAfter}
-use Rattle.sl_link.specs.Pass.Tm.{TmWaits, is_tm_frame, tm_frames}
+use Rattle.sl_link.specs.Framing.{CutsFrame, WaitsAfter}
+use Rattle.sl_link.specs.Framing.Tm.{TmWaits, is_tm_frame, tm_frames}
 
 module _ (f : TmFraming) (p : Parameters) (rest chunk left : List ℕ) (w : TmWaits f p rest) where
   pub cuts : (frame : List ℕ) → YieldsFrame f chunk frame left → CutsFrame (is_tm_frame p) rest chunk left frame

@@ -1,7 +1,7 @@
 use Rattle.std.proofs.Common.{◌+◌, ◌-◌}
-use Rattle.sl_link.specs.Pass.{HasCutAll}
-use Rattle.sl_link.proofs.lemmas.Pass.Reading.{IsPassing}
-use Rattle.sl_link.proofs.pass.read_recording.Given as goal
+use Rattle.sl_link.specs.Framing.{HasCutAll}
+use Rattle.sl_link.proofs.lemmas.Framing.Reading.{IsPassing}
+use Rattle.sl_link.proofs.framing.read_recording.Given as goal
 
 abbrev pub invariant-loop-taken : goal.invariant-loop-taken
 invariant-loop-taken g l =

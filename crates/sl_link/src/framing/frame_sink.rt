@@ -1,7 +1,7 @@
 //! What the frames of a recording are handed to.
 ghost use Rattle.std.specs.Prelude.{OnOk, IfErr, ◌++◌, ◌∷◌, [], List, ℕ};
 ghost use Rattle.sl_link.specs.Link.Managed.{Parameters};
-ghost use Rattle.sl_link.specs.Pass.{After, MayTake};
+ghost use Rattle.sl_link.specs.Framing.{After, MayTake};
 
 use crate::link::fault::LinkFault;
 use crate::link::managed::Managed;

@@ -1,11 +1,11 @@
 //! TC frames, cut out of chunks.
 ghost use Rattle.sl_fields.specs.Field.{IsOctets};
 
-use crate::pass::framer::Framer;
+use crate::framing::framer::Framer;
 use sl_tcframe::TcFramer;
 
 impl Framer for TcFramer {
-    ghost use Rattle.sl_link.specs.Pass.Tc.{TcWaits, is_tc_frame, tc_frames, tc_front_is_first, tc_nothing_has_none};
+    ghost use Rattle.sl_link.specs.Framing.Tc.{TcWaits, is_tc_frame, tc_frames, tc_front_is_first, tc_nothing_has_none};
 
     ghost is_frame = { is_tc_frame };
 

@@ -1,9 +1,9 @@
 //! TM frames, cut out of chunks.
-use crate::pass::framer::Framer;
+use crate::framing::framer::Framer;
 use sl_tmframe::TmFramer;
 
 impl Framer for TmFramer {
-    ghost use Rattle.sl_link.specs.Pass.Tm.{TmWaits, tm_front_is_first, is_tm_frame, tm_nothing_has_none, tm_frames};
+    ghost use Rattle.sl_link.specs.Framing.Tm.{TmWaits, tm_front_is_first, is_tm_frame, tm_nothing_has_none, tm_frames};
 
     ghost is_frame = { is_tm_frame };
 

@@ -1,8 +1,8 @@
 use Rattle.std.proofs.Common.{[], ap, arith, refl, take, ◌++◌}
 use Rattle.sl_link.proofs.lemmas.Link.Answers.{passed_up}
 use Rattle.sl_link.specs.Link.Managed.{Parameters}
-use Rattle.sl_link.proofs.lemmas.Pass.Reading.{passing_none, more_came, size_next, passing_next, stops_reading, stops_in_chunk}
-use Rattle.sl_link.proofs.pass.read_recording.Goals as goal
+use Rattle.sl_link.proofs.lemmas.Framing.Reading.{passing_none, more_came, size_next, passing_next, stops_reading, stops_in_chunk}
+use Rattle.sl_link.proofs.framing.read_recording.Goals as goal
 
 pub loop-taken-init : goal.loop-taken-init
 loop-taken-init g c =

@@ -11,8 +11,8 @@ use Rattle.sl_tcframe.proofs.ChunkLemmas.{below_again, less_than_whole, none_bel
 use Rattle.sl_tcframe.proofs.DelimitedLemmas.{frames_of-none}
 use Rattle.sl_tcframe.proofs.FramingLemmas.{below_is_not_whole, below_stays, fits_rest, front_tells}
 use Rattle.sl_link.specs.Link.Managed.{Parameters, tc_format}
-use Rattle.sl_link.specs.Pass.{CutsFrame, WaitsAfter}
-use Rattle.sl_link.specs.Pass.Tc.{TcWaits, is_tc_frame, tc_frames}
+use Rattle.sl_link.specs.Framing.{CutsFrame, WaitsAfter}
+use Rattle.sl_link.specs.Framing.Tc.{TcWaits, is_tc_frame, tc_frames}
 
 -- a framer that has taken no octet has none to wait
 pub waits_nothing : (f : TcFraming) (p : Parameters) → f.format ≡ tc_format p → f.rest ≡ [] → TcWaits f p []

@@ -2,7 +2,7 @@
 ghost use Rattle.std.specs.Prelude.{◌≡◌, ◌++◌, ◌∷◌, [], ℕ, List, IfSome, IfNone};
 ghost use Rattle.std.specs.Borrow.{sem};
 ghost use Rattle.std.specs.Io.BufRead.{Rests};
-ghost use Rattle.sl_link.specs.Pass.{CutsFrame, WaitsAfter, WaitsFor};
+ghost use Rattle.sl_link.specs.Framing.{CutsFrame, WaitsAfter, WaitsFor};
 
 /// Delimits the frames of one kind, whatever chunks the octets come in.
 pub trait Framer {

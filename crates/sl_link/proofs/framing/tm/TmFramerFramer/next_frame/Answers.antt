@@ -1,8 +1,8 @@
 use Rattle.std.proofs.Common.{refl}
 use Rattle.std.proofs.lemmas.Option.{IfSome_then}
 use Rattle.sl_link.proofs.lemmas.Link.Answers.{none_then}
-use Rattle.sl_link.proofs.lemmas.Pass.Tm.{cuts, cuts_none, waits_next}
-use Rattle.sl_link.proofs.pass.tm.TmFramerFramer.next_frame.Goals as goal
+use Rattle.sl_link.proofs.lemmas.Framing.Tm.{cuts, cuts_none, waits_next}
+use Rattle.sl_link.proofs.framing.tm.TmFramerFramer.next_frame.Goals as goal
 
 pub returns : goal.returns
 returns c =

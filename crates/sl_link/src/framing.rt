@@ -1,6 +1,6 @@
 //! A recording that is read once, chunk by chunk, and handed over frame by frame.
 ghost use Rattle.std.specs.Prelude.{◌^◌, ◌<◌, [], ℕ, List, length, IfOk, IfErr, OnOk};
-ghost use Rattle.sl_link.specs.Pass.{HasCutFrames, HasCutAll, PassesOver, StopsPassing};
+ghost use Rattle.sl_link.specs.Framing.{HasCutFrames, HasCutAll, PassesOver, StopsPassing};
 
 mod frame_sink;
 mod framer;

@@ -19,7 +19,7 @@ use std::marker::Model;
 pub struct TcFramer {
     shape: TcShape,
     // Whether `buffer` is a frame that was returned already. Then the next call of `next` clears
-    // it; `next_from` may return frames of a piece meanwhile.
+    // it; `next_from` may return frames of a chunk meanwhile.
     is_lent: bool,
     // The octets that were taken after the last frame, or where `is_lent` is set, the octets of the
     // frame that was returned from here.
@@ -77,88 +77,88 @@ impl TcFramer {
         }
     }
 
-    /// Takes octets from the front of `piece`, which is a chunk of the recording or what is left of
+    /// Takes octets from the front of `chunk`, which is a chunk of the recording or what is left of
     /// one, and returns the frame that they complete together with the octets that were taken
-    /// before. `piece` then holds the octets after the frame. The frame is one by its frame length
+    /// before. `chunk` then holds the octets after the frame. The frame is one by its frame length
     /// field, and may be longer than [`TcShape::max`].
     ///
     /// `None` comes in two cases:
     ///
-    /// - `piece` is used up before a frame is complete.
+    /// - `chunk` is used up before a frame is complete.
     /// - The first four octets after the last frame state a length below [`TcShape::least`].
-    ///   `piece` then holds the octets after these four, and the framer takes no octet in any later
+    ///   `chunk` then holds the octets after these four, and the framer takes no octet in any later
     ///   call.
-    pub fn next(&mut self, piece: &mut &[u8]) -> Option<&[u8]>
+    pub fn next(&mut self, chunk: &mut &[u8]) -> Option<&[u8]>
         // The state of the framer once the returned frame is no longer borrowed: `Rests R s P`, of
         // std's `specs/Io/BufRead.antt`, says that P holds then of what `s` points to.
-        ensures* taken { sem 𝓛 (Rests the_row self.entry (HasTakenTc self.old piece.old.now result)) }
+        ensures* taken { sem 𝓛 (Rests the_row self.entry (HasTakenTc self.old chunk.old.now result)) }
 
         // A frame has the octets that were taken after the last frame, and then octets from the
-        // front of the piece.
+        // front of the chunk.
         ensures frame { IfSome result (λ frame.
-            YieldsFrame self.old piece.old.now frame.now piece.new.now) }
+            YieldsFrame self.old chunk.old.now frame.now chunk.new.now) }
         ensures cut { IfSome result (λ frame. is_cut self.old.format frame.now ≡ true) }
 
-        // `None` means that no frame is whole. What is left of the piece is nothing, or what comes
+        // `None` means that no frame is whole. What is left of the chunk is nothing, or what comes
         // after four octets that state a length below the least.
-        ensures none { IfNone result (YieldsNone self.old piece.old.now piece.new.now) }
+        ensures none { IfNone result (YieldsNone self.old chunk.old.now chunk.new.now) }
 
         // A framer that is stuck takes no octet and returns no frame. `cut` and `stuck`, and also
         // `stuck` of `HasTakenTc`, follow from the other clauses, from those of `rest` and from the
         // law `tc_fronts_tell_frames`; they spare callers a proof.
-        ensures stuck { StaysStuck self.old piece.old.now result piece.new.now }
+        ensures stuck { StaysStuck self.old chunk.old.now result chunk.new.now }
     {
         if self.is_lent {
             self.buffer.clear();
             self.is_lent = false;
         }
-        if !complete(&self.shape, &mut self.buffer, piece) {
+        if !complete(&self.shape, &mut self.buffer, chunk) {
             return None;
         }
         self.is_lent = true;
         Some(self.buffer.as_slice())
     }
 
-    /// As [`next`](TcFramer::next), with the same clauses, for a piece that outlives the frame.
+    /// As [`next`](TcFramer::next), with the same clauses, for a chunk that outlives the frame.
     ///
     /// No clause says where the octets of a frame lie. As the code is written, a frame that lies
-    /// whole in the piece is returned as a slice of it, and only one that lies in several pieces is
+    /// whole in the chunk is returned as a slice of it, and only one that lies in several chunks is
     /// copied.
     #[inline]
-    pub fn next_from<'a, 'p: 'a>(&'a mut self, piece: &mut &'p [u8]) -> Option<&'a [u8]>
-        ensures* taken { sem 𝓛 (Rests the_row self.entry (HasTakenTc self.old piece.old.now result)) }
+    pub fn next_from<'a, 'p: 'a>(&'a mut self, chunk: &mut &'p [u8]) -> Option<&'a [u8]>
+        ensures* taken { sem 𝓛 (Rests the_row self.entry (HasTakenTc self.old chunk.old.now result)) }
         ensures frame { IfSome result (λ frame.
-            YieldsFrame self.old piece.old.now frame.now piece.new.now) }
+            YieldsFrame self.old chunk.old.now frame.now chunk.new.now) }
         ensures cut { IfSome result (λ frame. is_cut self.old.format frame.now ≡ true) }
-        ensures none { IfNone result (YieldsNone self.old piece.old.now piece.new.now) }
-        ensures stuck { StaysStuck self.old piece.old.now result piece.new.now }
+        ensures none { IfNone result (YieldsNone self.old chunk.old.now chunk.new.now) }
+        ensures stuck { StaysStuck self.old chunk.old.now result chunk.new.now }
     {
         if self.rest().is_empty() {
-            if let Some((frame, later)) = split_frame(&self.shape, *piece) {
-                *piece = later;
+            if let Some((frame, later)) = split_frame(&self.shape, *chunk) {
+                *chunk = later;
                 return Some(frame);
             }
         }
         // `next_across` borrows a copy of the caller's reference to the octets. So the caller's own
         // reference may stay in a register.
-        let mut octets: &'p [u8] = *piece;
+        let mut octets: &'p [u8] = *chunk;
         let frame = self.next_across(&mut octets);
-        *piece = octets;
+        *chunk = octets;
         frame
     }
 
-    // As `next`, where `next_from` finds no whole frame in the piece alone. Such calls are expected
+    // As `next`, where `next_from` finds no whole frame in the chunk alone. Such calls are expected
     // to be rare.
     #[cold]
-    fn next_across(&mut self, piece: &mut &[u8]) -> Option<&[u8]>
-        ensures* taken { sem 𝓛 (Rests the_row self.entry (HasTakenTc self.old piece.old.now result)) }
+    fn next_across(&mut self, chunk: &mut &[u8]) -> Option<&[u8]>
+        ensures* taken { sem 𝓛 (Rests the_row self.entry (HasTakenTc self.old chunk.old.now result)) }
         ensures frame { IfSome result (λ frame.
-            YieldsFrame self.old piece.old.now frame.now piece.new.now) }
+            YieldsFrame self.old chunk.old.now frame.now chunk.new.now) }
         ensures cut { IfSome result (λ frame. is_cut self.old.format frame.now ≡ true) }
-        ensures none { IfNone result (YieldsNone self.old piece.old.now piece.new.now) }
-        ensures stuck { StaysStuck self.old piece.old.now result piece.new.now }
+        ensures none { IfNone result (YieldsNone self.old chunk.old.now chunk.new.now) }
+        ensures stuck { StaysStuck self.old chunk.old.now result chunk.new.now }
     {
-        self.next(piece)
+        self.next(chunk)
     }
 }
 

@@ -29,34 +29,34 @@ pub record IsTmFramer (f : Inside) : Type 0 where
   pub short : f.held < f.len
   pub room : length f.buffer.items ≡ 2048
 
--- ---- one call, with a piece: a chunk, or what is left of one
+-- ---- one call, with a chunk or what is left of one, which is named `chunk` too
 
 -- The frame has the octets that were taken after the last frame, and then octets from the front of
--- the piece. The other octets of the piece are left.
-pub record YieldsFrame (old : TmFraming) (piece frame left : List ℕ) : Type 0 where
-  pub parts : old.rest ++ piece ≡ frame ++ left
+-- the chunk. The other octets of the chunk are left.
+pub record YieldsFrame (old : TmFraming) (chunk frame left : List ℕ) : Type 0 where
+  pub parts : old.rest ++ chunk ≡ frame ++ left
   pub whole : length frame ≡ old.len
 
--- The octets that were taken after the last frame, and then the whole piece, are too few for a
--- frame. No octet of the piece is left, and so none of the chunk.
-pub record UsesUpChunk (old : TmFraming) (piece left : List ℕ) : Type 0 where
-  pub short : length (old.rest ++ piece) < old.len
+-- The octets that were taken after the last frame, and then the whole chunk, are too few for a
+-- frame. No octet of the chunk is left.
+pub record UsesUpChunk (old : TmFraming) (chunk left : List ℕ) : Type 0 where
+  pub short : length (old.rest ++ chunk) < old.len
   pub none_left : left ≡ []
 
 -- the state after a call that returned this frame, or none: after a frame no octet is held, and
--- without a frame the piece was added to the octets that were held
+-- without a frame the chunk was added to the octets that were held
 abbrev pub after_call : TmFraming → List ℕ → Option (List ℕ) → TmFraming
-after_call old piece (Some frame) = record { len = old.len; rest = [] }
-after_call old piece None = record { len = old.len; rest = old.rest ++ piece }
+after_call old chunk (Some frame) = record { len = old.len; rest = [] }
+after_call old chunk None = record { len = old.len; rest = old.rest ++ chunk }
 
 -- the octets of the frame that a call lends to its caller, if it lends one
 abbrev pub lent_octets : Option (Bor (List ℕ)) → Option (List ℕ)
 lent_octets None = None
 lent_octets (Some octets) = Some octets.now
 
--- this is the state after a call with this piece and this answer
+-- this is the state after a call with this chunk and this answer
 abbrev pub HasTakenTm : TmFraming → List ℕ → Option (Bor (List ℕ)) → TmFraming → Type 0
-HasTakenTm old piece answer new = new ≡ after_call old piece (lent_octets answer)
+HasTakenTm old chunk answer new = new ≡ after_call old chunk (lent_octets answer)
 
 -- ---- calls with chunks, one after another
 

@@ -57,77 +57,77 @@ impl TmFramer {
         &self.buffer.as_slice()[..self.held]
     }
 
-    /// Takes octets from the front of `piece`, which is a chunk of the recording or what is left of
+    /// Takes octets from the front of `chunk`, which is a chunk of the recording or what is left of
     /// one, and returns the frame that they complete together with the octets that were taken
-    /// before. `piece` is left with the octets after the frame.
+    /// before. `chunk` is left with the octets after the frame.
     ///
-    /// `None` comes exactly where `piece` is used up before a frame is complete. All its octets are
+    /// `None` comes exactly where `chunk` is used up before a frame is complete. All its octets are
     /// then taken, and it is left empty.
-    pub fn next(&mut self, piece: &mut &[u8]) -> Option<&[u8]>
+    pub fn next(&mut self, chunk: &mut &[u8]) -> Option<&[u8]>
         // The state once the returned frame isn't borrowed any more: no octet is held after a
-        // frame. Without a frame the piece was added to the octets that were held. `Rests R s P`,
+        // frame. Without a frame the chunk was added to the octets that were held. `Rests R s P`,
         // of std's `specs/Io/BufRead.antt`, says that P holds then of what `s` points to.
-        ensures* taken { sem 𝓛 (Rests the_row self.entry (HasTakenTm self.old piece.old.now result)) }
+        ensures* taken { sem 𝓛 (Rests the_row self.entry (HasTakenTm self.old chunk.old.now result)) }
 
         // A frame has the octets that were taken after the last frame, and then octets from the
-        // front of the piece. The other octets of the piece are left.
+        // front of the chunk. The other octets of the chunk are left.
         ensures frame { IfSome result (λ frame.
-            YieldsFrame self.old piece.old.now frame.now piece.new.now) }
+            YieldsFrame self.old chunk.old.now frame.now chunk.new.now) }
 
-        // Without a frame the piece was used up first.
-        ensures used_up { IfNone result (UsesUpChunk self.old piece.old.now piece.new.now) }
+        // Without a frame the chunk was used up first.
+        ensures used_up { IfNone result (UsesUpChunk self.old chunk.old.now chunk.new.now) }
     {
         let wanted = usize::from(self.len) - self.held;
-        if piece.len() < wanted {
-            write_at(self.buffer.as_mut_slice(), self.held, piece);
-            self.held += piece.len();
-            *piece = &[];
+        if chunk.len() < wanted {
+            write_at(self.buffer.as_mut_slice(), self.held, chunk);
+            self.held += chunk.len();
+            *chunk = &[];
             return None;
         }
-        let (front, behind) = piece.split_at(wanted);
+        let (front, behind) = chunk.split_at(wanted);
         write_at(self.buffer.as_mut_slice(), self.held, front);
-        *piece = behind;
+        *chunk = behind;
         self.held = 0;
         Some(&self.buffer.as_slice()[..usize::from(self.len)])
     }
 
-    /// As [`next`](TmFramer::next), with the same clauses, for a piece that outlives the frame.
+    /// As [`next`](TmFramer::next), with the same clauses, for a chunk that outlives the frame.
     ///
     /// No clause says where the octets of a frame lie. As the code is written, a frame that lies
-    /// whole in the piece is returned as a slice of it, and only one that lies in several pieces is
+    /// whole in the chunk is returned as a slice of it, and only one that lies in several chunks is
     /// copied. The program calls this one; docs/DECISIONS.md says why both are public.
     #[inline]
-    pub fn next_from<'a, 'p: 'a>(&'a mut self, piece: &mut &'p [u8]) -> Option<&'a [u8]>
-        ensures* taken { sem 𝓛 (Rests the_row self.entry (HasTakenTm self.old piece.old.now result)) }
+    pub fn next_from<'a, 'p: 'a>(&'a mut self, chunk: &mut &'p [u8]) -> Option<&'a [u8]>
+        ensures* taken { sem 𝓛 (Rests the_row self.entry (HasTakenTm self.old chunk.old.now result)) }
         ensures frame { IfSome result (λ frame.
-            YieldsFrame self.old piece.old.now frame.now piece.new.now) }
-        ensures used_up { IfNone result (UsesUpChunk self.old piece.old.now piece.new.now) }
+            YieldsFrame self.old chunk.old.now frame.now chunk.new.now) }
+        ensures used_up { IfNone result (UsesUpChunk self.old chunk.old.now chunk.new.now) }
     {
         // A copy of the caller's reference is lent to the cold call, so that the reference itself
         // may stay in registers.
-        let mut octets: &'p [u8] = *piece;
+        let mut octets: &'p [u8] = *chunk;
         let is_between_frames = self.held == 0;
         if is_between_frames {
             if let Some((frame, later)) = octets.split_at_checked(usize::from(self.len)) {
-                *piece = later;
+                *chunk = later;
                 return Some(frame);
             }
         }
         let frame = self.next_across(&mut octets);
-        *piece = octets;
+        *chunk = octets;
         frame
     }
 
-    // As `next`, out of line: for a frame that lies in several pieces, and for a piece that ends
+    // As `next`, out of line: for a frame that lies in several chunks, and for a chunk that ends
     // before a frame is complete.
     #[cold]
-    fn next_across(&mut self, piece: &mut &[u8]) -> Option<&[u8]>
-        ensures* taken { sem 𝓛 (Rests the_row self.entry (HasTakenTm self.old piece.old.now result)) }
+    fn next_across(&mut self, chunk: &mut &[u8]) -> Option<&[u8]>
+        ensures* taken { sem 𝓛 (Rests the_row self.entry (HasTakenTm self.old chunk.old.now result)) }
         ensures frame { IfSome result (λ frame.
-            YieldsFrame self.old piece.old.now frame.now piece.new.now) }
-        ensures used_up { IfNone result (UsesUpChunk self.old piece.old.now piece.new.now) }
+            YieldsFrame self.old chunk.old.now frame.now chunk.new.now) }
+        ensures used_up { IfNone result (UsesUpChunk self.old chunk.old.now chunk.new.now) }
     {
-        self.next(piece)
+        self.next(chunk)
     }
 }
 

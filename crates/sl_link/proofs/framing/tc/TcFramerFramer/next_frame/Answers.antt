@@ -9,7 +9,7 @@ returns c =
     let new = c.next_from.follows.lender-at-none in
     let taken = c.next_from.follows.holds-at-none in
     let chunk = c.args.chunk.now.now in
-    let left = c.next_from.new.piece.now in
+    let left = c.next_from.new.chunk.now in
     let each = c.are_octets.ensures in (
       (refl, λ _. tt, λ p rest w. waits_next f p rest chunk left w each new c.next_from.result taken c.next_from.ensures.none),
       record {

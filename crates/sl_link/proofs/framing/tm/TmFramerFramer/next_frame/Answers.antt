@@ -10,7 +10,7 @@ returns c =
     let new = c.next_from.follows.lender-at-none in
     let taken = c.next_from.follows.holds-at-none in
     let chunk = c.args.chunk.now.now in
-    let left = c.next_from.new.piece.now in (
+    let left = c.next_from.new.chunk.now in (
       (refl, λ _. tt, λ p rest w. waits_next f p rest chunk left w new c.next_from.result taken c.next_from.ensures.used_up),
       record {
         frame = IfSome_then c.next_from.result c.next_from.ensures.frame (λ frame y p rest w. cuts f p rest chunk left w frame.now y);

@@ -7,7 +7,7 @@ use Rattle.std.proofs.lemmas.List.Elements.{All-replicate}
 use Rattle.sl_fields.specs.Field.{field}
 use Rattle.sl_fields.specs.PacketHeader.{packet_header}
 use Rattle.sl_packet.specs.Packet.{version_of, stated_packet_len, IsPacket}
-use Rattle.sl_packet.specs.Front.{OtherVersion, Incomplete, WholePacket, is_foreign, front, WholeIsAPacket, APacketIsWhole, ForeignIsNoPacket, IncompleteMayBecomeWhole}
+use Rattle.sl_packet.specs.Front.{OtherVersion, Incomplete, WholePacket, is_foreign, front_of, WholeIsAPacket, APacketIsWhole, ForeignIsNoPacket, IncompleteMayBecomeWhole}
 use Rattle.sl_packet.proofs.Filling.{take_filled}
 use Rattle.sl_packet.proofs.PacketLemmas.{version_of-append, stated_packet_len-append, version_of-take, stated_packet_len-take, stated_packet_len-packet, version_of-packet}
 
@@ -48,7 +48,7 @@ pub record IsWholeFront (octets : List ℕ) (n : ℕ) : Type 0 where
   pub inside : n ≤ length octets
   pub least : 7 ≤ n
 
-pub whole_front : (octets : List ℕ) (len : ℕ) → front octets ≡ WholePacket len → IsWholeFront octets len
+pub whole_front : (octets : List ℕ) (len : ℕ) → front_of octets ≡ WholePacket len → IsWholeFront octets len
 whole_front octets len h =
     let tests = whole_tests (is_foreign octets) (nat_lt (length octets) (stated_packet_len octets)) (stated_packet_len octets) len h in
     let fits : stated_packet_len octets ≤ length octets = ltb-false (length octets) (stated_packet_len octets) tests.1 in

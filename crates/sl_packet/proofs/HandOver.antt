@@ -3,7 +3,7 @@ use Rattle.std.proofs.Common.{◌≡◌, ℕ, ◌+◌, ◌-◌, ◌≤◌, true,
 use Rattle.std.proofs.lemmas.List.Elements.{filter-append}
 use Rattle.std.proofs.lemmas.List.{length-take-le, take-append-drop, take_rest}
 use Rattle.sl_packet.specs.Packet.{IsPacket, is_idle_packet}
-use Rattle.sl_packet.specs.Front.{Front, OtherVersion, Incomplete, WholePacket, front, packet_at, first_packet_of}
+use Rattle.sl_packet.specs.Front.{Front, OtherVersion, Incomplete, WholePacket, front_of, packet_at, first_packet_of}
 use Rattle.sl_packet.specs.Packets.{packets_of, rest_of, without_idle, only_idle}
 use Rattle.sl_packet.specs.Sink.{TakesAll}
 use Rattle.sl_packet.proofs.PacketLemmas.{packet_least}
@@ -18,14 +18,14 @@ pub record IsFirst (octets packet : List ℕ) : Type 0 where
   pub inside : length packet ≤ length octets
   pub split : octets ≡ packet ++ drop (length packet) octets
 
-first_at : (f : Front) (octets packet : List ℕ) → f ≡ front octets → packet_at f octets ≡ Some packet → (len : ℕ) × (front octets ≡ WholePacket len) × (packet ≡ take len octets)
+first_at : (f : Front) (octets packet : List ℕ) → f ≡ front_of octets → packet_at f octets ≡ Some packet → (len : ℕ) × (front_of octets ≡ WholePacket len) × (packet ≡ take len octets)
 first_at OtherVersion octets packet e h = absurd (cc)
 first_at Incomplete octets packet e h = absurd (cc)
 first_at (WholePacket len) octets packet e h = (len, sym e, (cc))
 
 pub is_first : (octets packet : List ℕ) → first_packet_of octets ≡ Some packet → IsFirst octets packet
 is_first octets packet h =
-    let (len, whole, same) = first_at (front octets) octets packet refl h in
+    let (len, whole, same) = first_at (front_of octets) octets packet refl h in
     let front_is = whole_front octets len whole in
     let long : length packet ≡ len = ap length same ∙ length-take-le len octets front_is.inside in
     let inside = front_is.inside in
@@ -43,10 +43,10 @@ none_at_front Incomplete octets h len e = cc
 none_at_front (WholePacket n) octets h len e = cc
 
 pub none_first : (octets : List ℕ) → first_packet_of octets ≡ None → packets_of octets ≡ []
-none_first octets h = packets_of-none octets (none_at_front (front octets) octets h)
+none_first octets h = packets_of-none octets (none_at_front (front_of octets) octets h)
 
 pub rest_first : (octets : List ℕ) → first_packet_of octets ≡ None → rest_of octets ≡ octets
-rest_first octets h = rest_of-none octets (none_at_front (front octets) octets h)
+rest_first octets h = rest_of-none octets (none_at_front (front_of octets) octets h)
 
 -- ---- the packets to deliver, and the idle ones
 
@@ -144,7 +144,7 @@ module _ {S : Type 0} (taking : S → ℕ → List ℕ → S → Type 0) where
       -- where no packet is left, all packets are handed over
       pub handed_all : first_packet_of left ≡ None → HasHandedAll old channel octets left mid packets idle
       handed_all h =
-          let none = none_at_front (front left) left h in
+          let none = none_at_front (front_of left) left h in
           let all = handed.in_order ∙ ap (λ xs. handed.done ++ xs) (packets_of-none left none) ∙ append-nil handed.done in
           let P : List (List ℕ) → Type 0 = λ packets. TakesAll taking old channel (without_idle packets) mid in
           record {

@@ -1,6 +1,6 @@
 -- Packets of known octets, computed from the definitions.
 use Rattle.std.proofs.Common.{◌≡◌, true, false, [], ◌∷◌, ◌++◌, List, ℕ, refl}
-use Rattle.sl_packet.specs.Front.{front, OtherVersion, Incomplete, WholePacket}
+use Rattle.sl_packet.specs.Front.{front_of, OtherVersion, Incomplete, WholePacket}
 use Rattle.sl_packet.specs.IdlePacket.{idle_packet}
 use Rattle.sl_packet.specs.Packet.{is_idle_packet}
 use Rattle.sl_packet.specs.Packets.{packets_of, rest_of}
@@ -14,11 +14,11 @@ abbrev idle : List ℕ
 idle = 0x07 ∷ 0xFF ∷ 0xC0 ∷ 0x00 ∷ 0x00 ∷ 0x09 ∷ 0 ∷ 0 ∷ 0 ∷ 0 ∷ 0 ∷ 0 ∷ 0 ∷ 0 ∷ 0 ∷ 0 ∷ []
 
 pub record AreFronts : Type 0 where
-  pub nothing : front [] ≡ Incomplete
-  pub no_length : front (0x00 ∷ 0x03 ∷ 0xC0 ∷ []) ≡ Incomplete
-  pub version_one : front (0x20 ∷ []) ≡ OtherVersion
-  pub whole : front packet ≡ WholePacket 10
-  pub one_octet_of_data : front (0x00 ∷ 0x01 ∷ 0xC0 ∷ 0x00 ∷ 0x00 ∷ 0x03 ∷ 0xAA ∷ []) ≡ Incomplete
+  pub nothing : front_of [] ≡ Incomplete
+  pub no_length : front_of (0x00 ∷ 0x03 ∷ 0xC0 ∷ []) ≡ Incomplete
+  pub version_one : front_of (0x20 ∷ []) ≡ OtherVersion
+  pub whole : front_of packet ≡ WholePacket 10
+  pub one_octet_of_data : front_of (0x00 ∷ 0x01 ∷ 0xC0 ∷ 0x00 ∷ 0x00 ∷ 0x03 ∷ 0xAA ∷ []) ≡ Incomplete
   pub end_to_end : packets_of (packet ++ idle) ≡ packet ∷ idle ∷ []
   pub nothing_left : rest_of (packet ++ idle) ≡ []
 

@@ -3,7 +3,7 @@ use Rattle.std.proofs.Common.{◌≡◌, ◌⊎◌, ℕ, zero, suc, ◌+◌, ◌
 use Rattle.std.specs.List.{AllByRecursion, concat}
 use Rattle.std.proofs.lemmas.List.{drop-drop, drop_all, drop_at, take_at, take-append-drop, length-take-le}
 use Rattle.sl_packet.specs.Packet.{IsPacket}
-use Rattle.sl_packet.specs.Front.{Front, OtherVersion, Incomplete, WholePacket, front}
+use Rattle.sl_packet.specs.Front.{Front, OtherVersion, Incomplete, WholePacket, front_of}
 use Rattle.sl_packet.specs.Packets.{whole_at, octets_passed, packets_from, packets_of, rest_of, ArePacketsOf, EachHasPackets, HasPacketsOnce, OthersArePrefixes}
 use Rattle.sl_packet.proofs.FrontLemmas.{whole_front, whole_is_a_packet, packet_is_whole}
 
@@ -13,7 +13,7 @@ packets_from-drop (suc skip) [] = refl
 packets_from-drop (suc skip) (octet ∷ octets) = packets_from-drop skip octets
 
 -- where the front is whole, its packet is the first one
-pub packets_of-whole : (octets : List ℕ) (len : ℕ) → front octets ≡ WholePacket len → packets_of octets ≡ take len octets ∷ packets_of (drop len octets)
+pub packets_of-whole : (octets : List ℕ) (len : ℕ) → front_of octets ≡ WholePacket len → packets_of octets ≡ take len octets ∷ packets_of (drop len octets)
 packets_of-whole [] len h = absurd (cc)
 packets_of-whole (octet ∷ octets) zero h = absurd (let w = whole_front (octet ∷ octets) zero h in omega arith)
 packets_of-whole (octet ∷ octets) (suc len) h =
@@ -22,7 +22,7 @@ packets_of-whole (octet ∷ octets) (suc len) h =
     ∙ ap (λ k. take (suc len) (octet ∷ octets) ∷ packets_from k octets) one_less
     ∙ ap (λ packets. take (suc len) (octet ∷ octets) ∷ packets) (packets_from-drop len octets)
 
-pub rest_of-whole : (octets : List ℕ) (len : ℕ) → front octets ≡ WholePacket len → rest_of octets ≡ rest_of (drop len octets)
+pub rest_of-whole : (octets : List ℕ) (len : ℕ) → front_of octets ≡ WholePacket len → rest_of octets ≡ rest_of (drop len octets)
 rest_of-whole octets len h =
     let later = packets_of (drop len octets) in
     let inside = (whole_front octets len h).inside in
@@ -36,13 +36,13 @@ none_at OtherVersion octets after h = refl
 none_at Incomplete octets after h = refl
 none_at (WholePacket len) octets after h = absurd (h len refl)
 
-pub packets_of-none : (octets : List ℕ) → ((len : ℕ) → front octets ≡ WholePacket len → ⊥) → packets_of octets ≡ []
+pub packets_of-none : (octets : List ℕ) → ((len : ℕ) → front_of octets ≡ WholePacket len → ⊥) → packets_of octets ≡ []
 packets_of-none [] h = refl
 packets_of-none (octet ∷ octets) h =
-    none_at (front (octet ∷ octets)) (octet ∷ octets) octets h ∙ packets_from-drop (length (octet ∷ octets)) octets
+    none_at (front_of (octet ∷ octets)) (octet ∷ octets) octets h ∙ packets_from-drop (length (octet ∷ octets)) octets
     ∙ ap packets_of (drop_all (length (octet ∷ octets)) octets (omega arith))
 
-pub rest_of-none : (octets : List ℕ) → ((len : ℕ) → front octets ≡ WholePacket len → ⊥) → rest_of octets ≡ octets
+pub rest_of-none : (octets : List ℕ) → ((len : ℕ) → front_of octets ≡ WholePacket len → ⊥) → rest_of octets ≡ octets
 rest_of-none octets h = ap (λ packets. drop (length (concat packets)) octets) (packets_of-none octets h)
 
 pub cases_front : (f : Front) → ((len : ℕ) × (f ≡ WholePacket len)) ⊎ ((len : ℕ) → f ≡ WholePacket len → ⊥)
@@ -80,7 +80,7 @@ rest_of-concat (packet ∷ packets) more each =
 are_same : (octets : List ℕ) (ps qs : List (List ℕ)) (r s : List ℕ) → qs ≡ ps → s ≡ r → ArePacketsOf octets ps r → ArePacketsOf octets qs s
 are_same octets ps qs r s e h a = rw (e, h) a
 
-one_before : (octets : List ℕ) (len : ℕ) (packets : List (List ℕ)) (rest : List ℕ) → front octets ≡ WholePacket len → ArePacketsOf (drop len octets) packets rest → ArePacketsOf octets (take len octets ∷ packets) rest
+one_before : (octets : List ℕ) (len : ℕ) (packets : List (List ℕ)) (rest : List ℕ) → front_of octets ≡ WholePacket len → ArePacketsOf (drop len octets) packets rest → ArePacketsOf octets (take len octets ∷ packets) rest
 one_before octets len packets rest h a = record {
   end_to_end =
       sym (take-append-drop len octets) ∙ ap (λ xs. take len octets ++ xs) a.end_to_end
@@ -89,16 +89,16 @@ one_before octets len packets rest h a = record {
   no_more = a.no_more;
 }
 
-no_packet_before : (octets : List ℕ) → ((len : ℕ) → front octets ≡ WholePacket len → ⊥) → ArePacketsOf octets [] octets
+no_packet_before : (octets : List ℕ) → ((len : ℕ) → front_of octets ≡ WholePacket len → ⊥) → ArePacketsOf octets [] octets
 no_packet_before octets h = record {
   end_to_end = refl;
   each = tt;
-  no_more = λ packet more p e. h (length packet) (ap front e ∙ packet_is_whole packet more p);
+  no_more = λ packet more p e. h (length packet) (ap front_of e ∙ packet_is_whole packet more p);
 }
 
-has_packets_if : (octets : List ℕ) → ((len : ℕ) → front octets ≡ WholePacket len → ArePacketsOf (drop len octets) (packets_of (drop len octets)) (rest_of (drop len octets))) → ArePacketsOf octets (packets_of octets) (rest_of octets)
+has_packets_if : (octets : List ℕ) → ((len : ℕ) → front_of octets ≡ WholePacket len → ArePacketsOf (drop len octets) (packets_of (drop len octets)) (rest_of (drop len octets))) → ArePacketsOf octets (packets_of octets) (rest_of octets)
 has_packets_if octets later =
-    elim (cases_front (front octets)) [
+    elim (cases_front (front_of octets)) [
       | inl (len, whole) ↦
           are_same octets (take len octets ∷ packets_of (drop len octets)) (packets_of octets) (rest_of (drop len octets)) (rest_of octets)
           (packets_of-whole octets len whole) (rest_of-whole octets len whole)
@@ -118,7 +118,7 @@ each_has_packets octets = has_packets (length octets) octets (omega arith)
 
 pub has_packets_once : HasPacketsOnce
 has_packets_once octets packets rest a =
-    let none = λ (len : ℕ) (h : front rest ≡ WholePacket len). a.no_more (take len rest) (drop len rest) (whole_is_a_packet rest len h).0 (sym (take-append-drop len rest)) in (
+    let none = λ (len : ℕ) (h : front_of rest ≡ WholePacket len). a.no_more (take len rest) (drop len rest) (whole_is_a_packet rest len h).0 (sym (take-append-drop len rest)) in (
       ap packets_of a.end_to_end ∙ packets_of-concat packets rest a.each ∙ ap (λ later. packets ++ later) (packets_of-none rest none) ∙ append-nil packets,
       ap rest_of a.end_to_end ∙ rest_of-concat packets rest a.each ∙ rest_of-none rest none,
     )

@@ -19,8 +19,8 @@ is_foreign octets = nat_lt 0 (length octets) && not (version_of octets == 0)
 
 -- The front of octets. Fewer than six octets have no header. For them `stated_packet_len` still is
 -- 7 or more, which is more than there are, so they are never a whole packet.
-abbrev pub front : List ℕ → Front
-front octets =
+abbrev pub front_of : List ℕ → Front
+front_of octets =
     if is_foreign octets then OtherVersion
     else if nat_lt (length octets) (stated_packet_len octets) then Incomplete
     else WholePacket (stated_packet_len octets)
@@ -33,27 +33,27 @@ packet_at (WholePacket len) octets = Some (take len octets)
 
 -- the packet at the front of octets
 abbrev pub first_packet_of : List ℕ → Option (List ℕ)
-first_packet_of octets = packet_at (front octets) octets
+first_packet_of octets = packet_at (front_of octets) octets
 
 -- ---- laws
 
 -- Octets with a whole front begin with a packet.
 abbrev pub WholeIsAPacket : Type 0
 WholeIsAPacket =
-    (octets : List ℕ) (len : ℕ) → front octets ≡ WholePacket len
+    (octets : List ℕ) (len : ℕ) → front_of octets ≡ WholePacket len
     → IsPacket (take len octets) × (len ≤ length octets)
 
 -- Octets that begin with a packet have a whole front.
 abbrev pub APacketIsWhole : Type 0
-APacketIsWhole = (packet more : List ℕ) → IsPacket packet → front (packet ++ more) ≡ WholePacket (length packet)
+APacketIsWhole = (packet more : List ℕ) → IsPacket packet → front_of (packet ++ more) ≡ WholePacket (length packet)
 
 -- Octets with a foreign front begin with no packet, whatever follows.
 abbrev pub ForeignIsNoPacket : Type 0
 ForeignIsNoPacket =
-    (octets more packet rest : List ℕ) → front octets ≡ OtherVersion → octets ++ more ≡ packet ++ rest
+    (octets more packet rest : List ℕ) → front_of octets ≡ OtherVersion → octets ++ more ≡ packet ++ rest
     → IsPacket packet → ⊥
 
 -- Octets with an incomplete front become a packet with some further octets.
 abbrev pub IncompleteMayBecomeWhole : Type 0
 IncompleteMayBecomeWhole =
-    (octets : List ℕ) → front octets ≡ Incomplete → (more : List ℕ) × IsOctets more × IsPacket (octets ++ more)
+    (octets : List ℕ) → front_of octets ≡ Incomplete → (more : List ℕ) × IsOctets more × IsPacket (octets ++ more)

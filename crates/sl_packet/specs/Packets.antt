@@ -4,7 +4,7 @@ use denote.Ref.{Bor}
 use Rattle.std.specs.Iterator.{YieldsFirstBy}
 use Rattle.std.specs.List.{AllByRecursion, concat, filter}
 use Rattle.sl_packet.specs.Packet.{IsPacket, is_idle_packet}
-use Rattle.sl_packet.specs.Front.{Front, OtherVersion, Incomplete, WholePacket, front, first_packet_of}
+use Rattle.sl_packet.specs.Front.{Front, OtherVersion, Incomplete, WholePacket, front_of, first_packet_of}
 
 -- ---- the packets at the front
 
@@ -40,8 +40,8 @@ abbrev pub packets_from : ℕ → List ℕ → List (List ℕ)
 packets_from skip [] = []
 packets_from (suc skip) (octet ∷ octets) = packets_from skip octets
 packets_from zero (octet ∷ octets) =
-    whole_at (front (octet ∷ octets)) (octet ∷ octets)
-    ++ packets_from (octets_passed (front (octet ∷ octets)) (octet ∷ octets)) octets
+    whole_at (front_of (octet ∷ octets)) (octet ∷ octets)
+    ++ packets_from (octets_passed (front_of (octet ∷ octets)) (octet ∷ octets)) octets
 
 -- the packets at the front of octets
 abbrev pub packets_of : List ℕ → List (List ℕ)

@@ -1,7 +1,7 @@
 -- What octets lack for a whole space packet, CCSDS 133.0-B, at their front.
 use Rattle.std.specs.Prelude.{◌≡◌, ◌↔◌, ℕ, ◌+◌, ◌-◌, nat_lt, if◌then◌else◌, List, ◌++◌, length}
 use Rattle.sl_packet.specs.Packet.{IsPacket, stated_packet_len}
-use Rattle.sl_packet.specs.Front.{front, is_foreign}
+use Rattle.sl_packet.specs.Front.{front_of, is_foreign}
 use Rattle.sl_packet.specs.Front as fronts
 use Rattle.sl_packet.specs.declared.partial.Need.{Need}
 use Rattle.sl_packet.specs.declared.partial.Need.TheVariants.{Foreign, Header, Octets, Whole}
@@ -20,11 +20,11 @@ need_of octets =
 
 -- The need of octets is foreign exactly where their front is.
 abbrev pub ForeignIsForeign : Type 0
-ForeignIsForeign = (octets : List ℕ) → need_of octets ≡ Foreign ↔ (front octets ≡ fronts.OtherVersion)
+ForeignIsForeign = (octets : List ℕ) → need_of octets ≡ Foreign ↔ (front_of octets ≡ fronts.OtherVersion)
 
 -- The need of octets is whole exactly where their front is.
 abbrev pub WholeIsWhole : Type 0
-WholeIsWhole = (octets : List ℕ) (n : ℕ) → need_of octets ≡ Whole n ↔ (front octets ≡ fronts.WholePacket n)
+WholeIsWhole = (octets : List ℕ) (n : ℕ) → need_of octets ≡ Whole n ↔ (front_of octets ≡ fronts.WholePacket n)
 
 -- Where the need is `Header k`, the octets and `k` further ones are the six octets of a header.
 abbrev pub HeaderHasSixOctets : Type 0

@@ -101,9 +101,9 @@ pub record HasTail (list : List (List ℕ)) (next : List ℕ) (count : ℕ) : Ty
 
 -- what a report says of a segment (`told`), as a value of the type `X`, or `none` where there is no
 -- segment; the segments are a list of one or none
-abbrev pub of_segment : {X : Type 0} → X → (List ℕ → X) → List (List ℕ) → X
-of_segment none told [] = none
-of_segment none told (segment ∷ segments) = told segment
+abbrev pub told_of_segment : {X : Type 0} → X → (List ℕ → X) → List (List ℕ) → X
+told_of_segment none told [] = none
+told_of_segment none told (segment ∷ segments) = told segment
 
 -- what a report says of the segment of the frame's unit, where the unit is accepted; `none` where it
 -- isn't, as `segment_by` is an empty list then. Here `told` takes two arguments: the segments that came
@@ -111,7 +111,7 @@ of_segment none told (segment ∷ segments) = told segment
 abbrev pub of_accepted :
     {X : Type 0} → X → (List (List ℕ) → List ℕ → X) → ReceptionParameters → List TcView → TcView → X
 of_accepted none told r views next =
-    of_segment none (told (segments_of r next.vc (unit_map r next) views)) (segment_by r views next)
+    told_of_segment none (told (segments_of r next.vc (unit_map r next) views)) (segment_by r views next)
 
 -- whether the frame's unit is accepted and out of sequence
 abbrev pub stray_by : ReceptionParameters → List TcView → TcView → Bool

@@ -43,7 +43,7 @@ flags_begin flags = flags == 1 || flags == 3
 -- one.
 pub data IsSeries : List (List ℕ) → Type 0 where
   whole : (segment : List ℕ) → flags_of segment ≡ 3 → IsSeries (segment ∷ [])
-  divided : (first last : List ℕ) (middle : List (List ℕ)) → flags_of first ≡ 1
+  segmented : (first last : List ℕ) (middle : List (List ℕ)) → flags_of first ≡ 1
       → AllByRecursion (λ segment. flags_of segment ≡ 0) middle → flags_of last ≡ 2
       → IsSeries (first ∷ middle ++ last ∷ [])
 

@@ -2,7 +2,7 @@
 -- next frame. The steps from one state to the next are the code's, not the standard's, and only
 -- contracts of private functions cite them.
 use Rattle.std.specs.Prelude.{ℕ, Bool, false, List, [], ◌∷◌, ◌++◌, drop, Option, None, Some}
-use Rattle.sl_packet.specs.Front.{Front, OtherVersion, Incomplete, WholePacket, front, is_foreign}
+use Rattle.sl_packet.specs.Front.{Front, OtherVersion, Incomplete, WholePacket, front_of, is_foreign}
 use Rattle.sl_packet.specs.Packets.{rest_of}
 use Rattle.sl_tmframe.specs.TmFrame.{TmView, DataField, Packets, Idle, Opaque}
 use Rattle.sl_tmflow.specs.VirtualChannel.{follows, packet_data}
@@ -76,7 +76,7 @@ incomplete_in (WholePacket len) octets = []
 abbrev pub held_after : DataField → List ℕ → List ℕ
 held_after (Packets None octets) held = held
 held_after (Packets (Some pointer) octets) held =
-    incomplete_in (front (rest_of (drop pointer octets))) (rest_of (drop pointer octets))
+    incomplete_in (front_of (rest_of (drop pointer octets))) (rest_of (drop pointer octets))
 held_after Idle held = held
 held_after Opaque held = held
 

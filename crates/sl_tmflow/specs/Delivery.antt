@@ -7,7 +7,7 @@ use Rattle.std.specs.List.{AllByRecursion, filter, flat_map}
 use Rattle.std.specs.Option.{option_eq}
 use mathlib.Core.List.{IsPrefix}
 use Rattle.sl_packet.specs.Packet.{IsPacket}
-use Rattle.sl_packet.specs.Front.{Front, OtherVersion, Incomplete, WholePacket, front}
+use Rattle.sl_packet.specs.Front.{Front, OtherVersion, Incomplete, WholePacket, front_of}
 use Rattle.sl_tmflow.specs.Among.{IsAmong}
 use Rattle.sl_tmframe.specs.TmFrame.{TmView, DataField, Packets, Idle, Opaque}
 use Rattle.sl_tmflow.specs.VirtualChannel.{follows, AreConsecutive, packet_data, reassembly}
@@ -105,7 +105,7 @@ front_step first before field all (WholePacket len) =
 -- what the data field of the next frame does to an incomplete packet with these octets so far
 abbrev pub field_step : List ℕ → DataField → Continuation
 field_step octets (Packets first field) =
-    front_step first (length octets) field (octets ++ field) (front (octets ++ field))
+    front_step first (length octets) field (octets ++ field) (front_of (octets ++ field))
 field_step octets Idle = Continues
 field_step octets Opaque = Breaks
 
@@ -142,7 +142,7 @@ outcome_of_front (WholePacket len) view octets later = Completes (take len octet
 -- the outcome of a packet start in the frame `view`, where `octets` are those of the frame from the
 -- packet start on, and `later` are the later frames
 abbrev pub outcome_of : TmView → List ℕ → List TmView → Outcome
-outcome_of view octets later = outcome_of_front (front octets) view octets later
+outcome_of view octets later = outcome_of_front (front_of octets) view octets later
 
 -- ---- the deliveries of a channel, in order of frame and packet start
 

@@ -45,7 +45,7 @@ LacksRoom s form = IsReserved s → vec_capacity form < vec_len form + piece_roo
 
 -- A piece of one octet or more is made: it goes from the front of `left`, the octets that are still
 -- to come, to the end of `made`. Afterwards these are `left'` and `made'`.
-pub record AddsPieceTm (left made left' made' : List ℕ) : Type 0 where
+pub record AddsPiece (left made left' made' : List ℕ) : Type 0 where
   pub piece : List ℕ
   pub some : 0 < length piece
   pub front : left ≡ piece ++ left'
@@ -84,8 +84,8 @@ abbrev pub beyond_fields : TmFormat → List ℕ → List ℕ
 beyond_fields format octets = drop (fields_in format octets * field_room_of format) octets
 
 -- the frames of the whole data fields that octets fill
-abbrev pub frames_of : TmFormat → Heading → Option ℕ → List ℕ → List ℕ
-frames_of format h first octets = field_frames format (fields_in format octets) h first octets
+abbrev pub filled_frames : TmFormat → Heading → Option ℕ → List ℕ → List ℕ
+filled_frames format h first octets = field_frames format (fields_in format octets) h first octets
 
 -- the length in octets of these frames
 abbrev pub frames_len : TmFormat → List ℕ → ℕ
@@ -113,13 +113,13 @@ abbrev pub channel_left : TmFormat → Heading → ℕ → List ℕ → List (Li
 channel_left format h start octets (packet ∷ packets) others =
     let all : List ℕ = octets ++ packet in
     let frames : ℕ = fields_in format all in
-    frames_of format h (Some start) all
+    filled_frames format h (Some start) all
     ++ channel_left format (heading_after h frames) (start_after start frames (beyond_fields format all))
     (beyond_fields format all) packets others
 channel_left format h start [] [] others = others h
 channel_left format h start (octet ∷ octets) [] others =
     let all : List ℕ = filled_up format (octet ∷ octets) in
-    frames_of format h (Some start) all ++ others (heading_after h (fields_in format all))
+    filled_frames format h (Some start) all ++ others (heading_after h (fields_in format all))
 
 -- the frames of virtual channels with these lists of packets, none of which is taken
 abbrev pub lists_left : TmFormat → Heading → List (List (List ℕ)) → List ℕ

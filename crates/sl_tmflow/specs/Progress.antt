@@ -1,7 +1,7 @@
 -- What a frame of packets does to an incomplete packet, in the code's own words. Only contracts of
 -- private functions cite this file.
 use Rattle.std.specs.Prelude.{◌≡◌, ℕ, ◌+◌, ◌≤◌, List, ◌++◌, length, take, Option}
-use Rattle.sl_packet.specs.Front.{Incomplete, front}
+use Rattle.sl_packet.specs.Front.{Incomplete, front_of}
 use Rattle.sl_packet.specs.Packet.{longest_packet}
 use Rattle.sl_tmframe.specs.TmFrame.{Packets}
 use Rattle.sl_tmflow.specs.declared.progress.Progress.{Progress}
@@ -21,9 +21,9 @@ pub record IsEnough (held field part : List ℕ) : Type 0 where
   -- whatever the pointer, these octets do to the packet what the whole field does
   pub step :
       (first : Option ℕ)
-      → front_step first (length held) field (held ++ part) (front (held ++ part))
+      → front_step first (length held) field (held ++ part) (front_of (held ++ part))
       ≡ field_step held (Packets first field)
   -- the octets are the whole field where the packet stays incomplete
-  pub all : front (held ++ part) ≡ Incomplete → part ≡ field
+  pub all : front_of (held ++ part) ≡ Incomplete → part ≡ field
   -- with these octets the packet is no longer than the longest packet
   pub fits : length held + length part ≤ longest_packet

@@ -1,6 +1,6 @@
 //! A virtual channel, and the packet that is incomplete on it.
 ghost use Rattle.std.specs.Prelude.{◌≡◌, ◌≢◌, ◌⊎◌, ◌≤◌, ◌+◌, ◌++◌, [], length, OnOk, IfOk, IfErr};
-ghost use Rattle.sl_packet.specs.Front.{front, is_foreign};
+ghost use Rattle.sl_packet.specs.Front.{front_of, is_foreign};
 ghost use Rattle.sl_packet.specs.Packets.{packets_of, rest_of};
 ghost use Rattle.sl_packet.specs.Stopping.{HandsOver};
 ghost use Rattle.sl_tmframe.specs.TmField.{as_content};
@@ -280,9 +280,9 @@ impl Channel {
         // where there is such a packet.
         ensures count { self.new.state.count ≡ self.old.state.count }
         ensures held { OnOk result (self.new.state.held
-            ≡ incomplete_in (front (rest_of octets.now)) (rest_of octets.now)) }
+            ≡ incomplete_in (front_of (rest_of octets.now)) (rest_of octets.now)) }
         ensures memory { IfErr result (λ flow. flow ≡ FlowFault.Memory
-            → incomplete_in (front (rest_of octets.now)) (rest_of octets.now) ≢ []) }
+            → incomplete_in (front_of (rest_of octets.now)) (rest_of octets.now) ≢ []) }
 
         // The sink is handed the packets that are whole. Octets of another packet version after
         // these packets are reported.
@@ -309,7 +309,7 @@ impl Channel {
 // The octets, where they are the front of a packet that isn't there whole, and otherwise no octets.
 // Then whether there is a first octet, and the packet version in it is another one than 0.
 fn read_remainder(octets: &[u8]) -> (&[u8], bool)
-    ensures begun { result.0.now ≡ incomplete_in (front octets.now) octets.now }
+    ensures begun { result.0.now ≡ incomplete_in (front_of octets.now) octets.now }
     ensures foreign { result.1 ≡ is_foreign octets.now }
 {
     match need(octets) {

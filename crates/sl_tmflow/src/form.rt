@@ -6,8 +6,8 @@ ghost use Rattle.std.specs.Vec.{vec_len, vec_capacity};
 ghost use Rattle.sl_packet.specs.Packet.{longest_packet};
 ghost use Rattle.sl_tmframe.specs.PacketFrame.{field_room_of};
 ghost use Rattle.sl_tmframe.specs.TmFrame.{longest_field};
-ghost use Rattle.sl_tmflow.specs.Form.{AddsPieceTm, IsReserved, LacksRoom, form_of, piece_room};
-ghost use Rattle.sl_tmflow.specs.Form.{octets_room, heading_after, filled_up, frames_of};
+ghost use Rattle.sl_tmflow.specs.Form.{AddsPiece, IsReserved, LacksRoom, form_of, piece_room};
+ghost use Rattle.sl_tmflow.specs.Form.{octets_room, heading_after, filled_up, filled_frames};
 ghost use Rattle.sl_tmflow.specs.Form.{frames_len, fields_in, beyond_fields};
 ghost use Rattle.sl_tmflow.specs.NormalForm.{fill_of, filling};
 ghost use Rattle.sl_tmflow.specs.Recording.{tm_lists};
@@ -157,7 +157,7 @@ impl<'d> TmForm<'d> {
         // The piece is the front of the octets that were still to come, and the octets after it are
         // still to come. `false` means that no octet was still to come.
         ensures piece { IfOk result (λ some. IsTrue some
-            → AddsPieceTm self.old.left form.old.items self.new.left form.new.items) }
+            → AddsPiece self.old.left form.old.items self.new.left form.new.items) }
         ensures end { IfOk result (λ some. IsFalse some
             → (self.old.left ≡ []) × (self.new.left ≡ []) × (form.new.items ≡ form.old.items)) }
 
@@ -236,7 +236,7 @@ fn add_packet(
     requires short { length packet.now ≤ longest_packet }
     // The octets are divided into the data fields of frames, and the octets beyond these are kept.
     ensures frames { OnOk result (form.new.items ≡ form.old.items
-        ++ frames_of shape.now heading (Some start) (octets.old.items ++ packet.now)) }
+        ++ filled_frames shape.now heading (Some start) (octets.old.items ++ packet.now)) }
     ensures beyond { OnOk result (octets.new.items
         ≡ beyond_fields shape.now (octets.old.items ++ packet.now)) }
     ensures count { IfOk result (λ frames. frames
@@ -292,7 +292,7 @@ fn add_filling(
     requires few { length octets.old.items < field_room_of shape.now }
     // The octets, filled up, are the data fields of the frames. No octets lie beyond these.
     ensures frames { OnOk result (form.new.items ≡ form.old.items
-        ++ frames_of shape.now heading (Some start) (filled_up shape.now octets.old.items)) }
+        ++ filled_frames shape.now heading (Some start) (filled_up shape.now octets.old.items)) }
     ensures beyond { OnOk result (octets.new.items
         ≡ beyond_fields shape.now (filled_up shape.now octets.old.items)) }
     ensures count { IfOk result (λ frames. frames
@@ -369,7 +369,7 @@ fn push_fields(
     requires first { IfSome packets.now.first (λ first. first < field_room_of shape.now) }
     // A frame is added for each data field that the octets fill.
     ensures frames { OnOk result (form.new.items ≡ form.old.items
-        ++ frames_of shape.now heading packets.now.first packets.now.octets.now) }
+        ++ filled_frames shape.now heading packets.now.first packets.now.octets.now) }
     ensures size { OnOk result (vec_len form.new
         ≡ vec_len form.old + frames_len shape.now packets.now.octets.now) }
 

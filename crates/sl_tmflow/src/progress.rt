@@ -1,7 +1,7 @@
 //! What the next frame of packets does to an incomplete packet, and which first header pointer
 //! agrees with that packet.
 ghost use Rattle.std.specs.Prelude.{◌≡◌, ◌≤◌, ◌<◌, ◌+◌, ◌^◌, ◌++◌, ℕ, length, take, IfOk, OnErr};
-ghost use Rattle.sl_packet.specs.Front.{front};
+ghost use Rattle.sl_packet.specs.Front.{front_of};
 ghost use Rattle.sl_tmframe.specs.TmFrame.{Packets, longest_field};
 ghost use Rattle.sl_tmflow.specs.Delivery.{agreeing_pointer, field_step, front_step};
 ghost use Rattle.sl_tmflow.specs.Incomplete.{longest_incomplete};
@@ -76,7 +76,7 @@ fn wanted<'a>(held: &[u8], field: &'a [u8]) -> &'a [u8]
 fn progress_in(octets: &[u8], before: usize, field: &PacketOctets) -> Progress
     requires { before + length field.now.octets.now < 2 ^ 64 }
     ensures step { progress_step result octets.now
-        ≡ front_step field.now.first before field.now.octets.now octets.now (front octets.now) }
+        ≡ front_step field.now.first before field.now.octets.now octets.now (front_of octets.now) }
     ensures inside { (len : ℕ) → result ≡ Progress.Ends len → len ≤ length octets.now }
     ensures short { result ≡ Progress.Continues → length octets.now ≤ longest_incomplete }
 {

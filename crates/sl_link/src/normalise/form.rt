@@ -23,7 +23,7 @@ pub trait Form {
     ghost use Rattle.std.specs.Prelude.{◌≡◌, ◌≢◌, ◌+◌, ◌≤◌, ◌<◌, ℕ, List, [], IfErr, IfOk, OnOk, OnErr, IsTrue, IsFalse, vec_len};
     ghost use Rattle.std.specs.Vec.{vec_capacity};
     // One definition for both kinds; `sl_tcflow` has one of its own, `AddsPieceTc`, which implies it.
-    ghost use Rattle.sl_tmflow.specs.Form.{AddsPieceTm};
+    ghost use Rattle.sl_tmflow.specs.Form.{AddsPiece};
     ghost use Rattle.sl_link.specs.Normalise.Form.{piece_size};
     ghost use Rattle.sl_link.specs.declared.link.fault.LinkFault.{LinkFault};
 
@@ -38,7 +38,7 @@ pub trait Form {
     /// piece.
     fn next(&mut self, text: &mut Vec<u8>) -> Result<bool, LinkFault>
         ensures piece { IfOk result (λ some. IsTrue some
-            → AddsPieceTm (left self.old) text.old.items (left self.new) text.new.items) }
+            → AddsPiece (left self.old) text.old.items (left self.new) text.new.items) }
         ensures end { IfOk result (λ some. IsFalse some
             → (left self.old ≡ []) × (text.new.items ≡ text.old.items)) }
         ensures pieces { OnErr result (left self.old ≢ []) }

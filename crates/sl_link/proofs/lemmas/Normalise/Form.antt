@@ -1,7 +1,7 @@
 -- A normal form that is written piece by piece.
 use Rattle.std.proofs.Common.{◌≡◌, ◌≢◌, ℕ, List, [], ◌++◌, length, Option, refl, sym, subst, ◌∙◌, ap, arith, append_assoc, append-nil, length-append}
 use Rattle.std.proofs.KnownBytes.{Appends-nil}
-use Rattle.sl_tmflow.specs.Form.{AddsPieceTm}
+use Rattle.sl_tmflow.specs.Form.{AddsPiece}
 use Rattle.sl_tmflow.specs.NormalForm.{normal_form}
 use Rattle.sl_tmflow.specs.Recording.{tm_lists}
 use Rattle.sl_tcflow.specs.Recording.{tc_lists}
@@ -18,15 +18,15 @@ use Rattle.sl_link.specs.Normalise.Tm.{tm_form_of}
 use Rattle.sl_link.proofs.lemmas.Io.Streams.{AddsText-trans, stops_before, writer_stops_waiting}
 
 -- where a piece is made, octets were still to come
-pub piece_left : {left text left' text' : List ℕ} → AddsPieceTm left text left' text' → left ≢ []
+pub piece_left : {left text left' text' : List ℕ} → AddsPiece left text left' text' → left ≢ []
 piece_left {left'} a none = let long = a.some in absurd (omega (arith, ap length (sym a.front ∙ none), length-append a.piece left'))
 
 -- what isn't written yet is the same after a piece
-same_after : {left text left' text' : List ℕ} → AddsPieceTm left text left' text' → text' ++ left' ≡ text ++ left
+same_after : {left text left' text' : List ℕ} → AddsPiece left text left' text' → text' ++ left' ≡ text ++ left
 same_after {left} {text} {left'} a = rw (a.added, append_assoc text a.piece left', a.front) refl
 
 -- after the first piece, and where memory was taken then, nothing is written
-pub form_begun : {W : Type 0} {contents : W → Option (List ℕ)} {writer : Counted W} {left text left' text' left'' text'' : List ℕ} → text ≡ [] → AddsPieceTm left text left' text' → left'' ≡ left' → text'' ≡ text'
+pub form_begun : {W : Type 0} {contents : W → Option (List ℕ)} {writer : Counted W} {left text left' text' left'' text'' : List ℕ} → text ≡ [] → AddsPiece left text left' text' → left'' ≡ left' → text'' ≡ text'
     → AddsText contents writer writer [] (text'' ++ left'') left
 form_begun {contents} {writer} {left} none a kept same =
     record { written = []; parts = rw (same, kept, same_after a, none) refl; writes = Appends-nil (contents (stream_of writer)); no_fault = refl }
@@ -34,7 +34,7 @@ form_begun {contents} {writer} {left} none a kept same =
 -- A form is written: of its octets those that wait in a text, and those that are still to come, aren't written yet.
 module _ {W : Type 0} {contents : W → Option (List ℕ)} {old new : Counted W} {text octets : List ℕ} where
   -- after one piece
-  pub next_piece : {left left' text' : List ℕ} → AddsText contents old new [] (text ++ left) octets → AddsPieceTm left text left' text' → AddsText contents old new [] (text' ++ left') octets
+  pub next_piece : {left left' text' : List ℕ} → AddsText contents old new [] (text ++ left) octets → AddsPiece left text left' text' → AddsText contents old new [] (text' ++ left') octets
   next_piece w a = subst (λ l. AddsText contents old new [] l octets) (sym (same_after a)) w
 
   -- where some of what waited was written

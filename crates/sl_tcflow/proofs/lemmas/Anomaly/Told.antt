@@ -5,7 +5,7 @@ use Rattle.std.proofs.lemmas.Bool.{ltb-true}
 use Rattle.std.proofs.lemmas.Bool.Decides.{eqb_tells}
 use Rattle.std.specs.Prelude.{is_none, option_map}
 use Rattle.sl_tcframe.specs.TcFrame.{TcView}
-use Rattle.sl_tcflow.specs.Anomaly.{begins, continues, number_held, of_segment, of_accepted, StrayIsTold, WhatIsToldIsStray, DroppedIsTold, WhatIsToldIsDropped, LongIsTold, WhatIsToldIsLong}
+use Rattle.sl_tcflow.specs.Anomaly.{begins, continues, number_held, told_of_segment, of_accepted, StrayIsTold, WhatIsToldIsStray, DroppedIsTold, WhatIsToldIsDropped, LongIsTold, WhatIsToldIsLong}
 use Rattle.sl_tcflow.specs.Incomplete.{IsIncomplete, incomplete_of, exceeds_limit}
 use Rattle.sl_tcflow.specs.Receiver.{AreIncomplete, unit_map, segment_by}
 use Rattle.sl_tcflow.specs.Reception.{segments_of}
@@ -22,7 +22,7 @@ use Rattle.std.proofs.lemmas.Bool.{and_parts}
 -- without an accepted unit nothing is reported
 pub told_none : {X : Type 0} (none : X) (told : List (List ℕ) → List ℕ → X) (r : ReceptionParameters) (views : List TcView) (next : TcView)
     → segment_by r views next ≡ [] → of_accepted none told r views next ≡ none
-told_none none told r views next no_segment = ap (of_segment none (told (segments_of r next.vc (unit_map r next) views))) no_segment
+told_none none told r views next no_segment = ap (told_of_segment none (told (segments_of r next.vc (unit_map r next) views))) no_segment
 
 -- with an accepted unit, the report depends on the series that is incomplete at the unit's index
 module _ (r : ReceptionParameters) (old : List (Option (List ℕ))) (views : List TcView) (next : TcView) (unit : List ℕ) where

@@ -6,7 +6,7 @@ use Rattle.std.proofs.lemmas.Bool.{le-leb}
 use Rattle.std.proofs.lemmas.Bool.Decides.{eqb_tells}
 use Rattle.std.proofs.lemmas.List.{length_push}
 use Rattle.std.proofs.lemmas.List.Elements.{Contains-append_right}
-use Rattle.sl_tcflow.specs.Series.{flags_of, IsSeries, whole, divided, SeriesAt, IsSeriesOf, past, completed, series_with, series_from, series_of, EachIsSeries, EachSeriesIsListed, AreApart, none, one, more, SeriesAreApart}
+use Rattle.sl_tcflow.specs.Series.{flags_of, IsSeries, whole, segmented, SeriesAt, IsSeriesOf, past, completed, series_with, series_from, series_of, EachIsSeries, EachSeriesIsListed, AreApart, none, one, more, SeriesAreApart}
 use Rattle.sl_fields.proofs.ListLemmas.{each-append, each-weaker}
 
 abbrev pub IsContinuing : List ℕ → Type 0
@@ -131,7 +131,7 @@ completed_begun segment later is (inr (series, listed, c)) = inr (
     behind = c.more;
     in_order = c.in_order ∙ sym (append_assoc c.middle (c.last ∷ []) c.more);
     series_is = c.series_is;
-    is_series = subst IsSeries (sym c.series_is) (divided segment c.last c.middle is c.goes_on c.ends);
+    is_series = subst IsSeries (sym c.series_is) (segmented segment c.last c.middle is c.goes_on c.ends);
     begin_none =
         each-append BeginsNone c.middle (c.last ∷ []) (each-weaker IsContinuing BeginsNone continuing_begins_none c.middle c.goes_on)
         (last_begins_none c.last c.ends, tt);

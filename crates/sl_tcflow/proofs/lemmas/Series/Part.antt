@@ -11,7 +11,7 @@ use Rattle.sl_packet.specs.Packet.{IsPacket}
 use Rattle.sl_packet.specs.Packets.{packets_of}
 use Rattle.sl_packet.proofs.PacketsLemmas.{packets_of-packet}
 use Rattle.sl_tcflow.specs.Reception.{packets_of_series}
-use Rattle.sl_tcflow.specs.Series.{flags_of, IsSeries, whole, divided, SeriesAt, series_from, reassembled}
+use Rattle.sl_tcflow.specs.Series.{flags_of, IsSeries, whole, segmented, SeriesAt, series_from, reassembled}
 use Rattle.sl_tcflow.specs.TcNormalForm.{segment_count, octets_at, flags_at, segment_at}
 use Rattle.sl_fields.proofs.ListLemmas.{each-append, each-weaker}
 use Rattle.sl_tcflow.proofs.lemmas.Form.Pushed.{counts_more}
@@ -73,7 +73,7 @@ series_of_parts (suc (suc n)) unit flags some =
     let all : map unit (range_with_len 1 (suc n)) ≡ middle ++ unit (suc n) ∷ [] =
     ap (λ k. map unit (range_with_len 1 k)) (sym (add-one n)) ∙ map-range_with_len_more unit 1 n (suc n) (omega arith) in
     subst (λ l. IsSeries (unit 0 ∷ l)) (sym all)
-    (divided (unit 0) (unit (suc n)) middle (flags 0 ∙ first_of_many (suc (suc n)) (omega arith))
+    (segmented (unit 0) (unit (suc n)) middle (flags 0 ∙ first_of_many (suc (suc n)) (omega arith))
     (continuing (suc (suc n)) unit flags 1 n (omega arith) (omega arith)) (flags (suc n) ∙ last_of_many (suc (suc n)) (suc n) (omega arith) (omega arith)))
 
 pub units_are_series : (room map_id : ℕ) (packet : List ℕ) → 0 < room → map_id < 64 → 0 < length packet
@@ -88,7 +88,7 @@ parts_are_series room map_id packet some small long = grind (arith, units_of_par
 pub series_first : (n k : ℕ) (segments later : List (List ℕ)) → k ≡ n + length segments → IsSeries segments
     → series_from n (segments ++ later) ≡ series_at n segments ∷ series_from k later
 series_first n k segments later here (whole segment is) = grind (arith, common_steps, begins_whole)
-series_first n k segments later here (divided first last middle begins goes_on ends) = grind (arith, common_steps, each-append, each-weaker, continuing_begins_none, last_begins_none, begins_divided, completed_all, none_begin)
+series_first n k segments later here (segmented first last middle begins goes_on ends) = grind (arith, common_steps, each-append, each-weaker, continuing_begins_none, last_begins_none, begins_divided, completed_all, none_begin)
 
 -- ---- packets
 

@@ -4,7 +4,7 @@ use Rattle.std.proofs.Common.{◌≡◌, ℕ, ◌<◌, ◌==◌, ◌&&◌, Bool,
 use Rattle.std.specs.List.{AllByRecursion}
 use Rattle.std.specs.Prelude.{is_none}
 use Rattle.sl_fields.specs.SegmentHeader.{SegmentFields}
-use Rattle.sl_tcflow.specs.Anomaly.{dropped_of, long_of, number_held, of_segment, stray_of, NoPlainSeriesIsIncomplete, PlainUnitHasTailAlone}
+use Rattle.sl_tcflow.specs.Anomaly.{dropped_of, long_of, number_held, told_of_segment, stray_of, NoPlainSeriesIsIncomplete, PlainUnitHasTailAlone}
 use Rattle.sl_tcflow.specs.Incomplete.{incomplete_of, exceeds_limit}
 use Rattle.sl_tcflow.specs.Series.{flags_continue, flags_of, header_at, segment_data, segment_in, segments_on, whole_segment, PlainUnitIsWhole}
 use Rattle.sl_fields.proofs.ListLemmas.{each-filter}
@@ -58,7 +58,7 @@ module _ (list : List (List ℕ)) (unit : List ℕ) where
 
 -- the report on the frame's unit, if it is accepted
 told_of_whole : {X : Type 0} (none : X) (told : List ℕ → X) → ((unit : List ℕ) → told (whole_segment unit) ≡ none)
-    → (plain : Bool) (units : List (List ℕ)) → plain ≡ true → of_segment none told (map (segment_in plain) units) ≡ none
+    → (plain : Bool) (units : List (List ℕ)) → plain ≡ true → told_of_segment none told (map (segment_in plain) units) ≡ none
 told_of_whole none told nothing false units is = absurd (cc)
 told_of_whole none told nothing true [] is = refl
 told_of_whole none told nothing true (unit ∷ units) is = nothing unit

@@ -2,7 +2,7 @@ use Rattle.std.proofs.Common.{◌<◌, ◌≤◌, ◌-◌, ◌/◌, ◌%◌, ◌
 use Rattle.std.proofs.lemmas.List.{take-append-drop, take_rest}
 use Rattle.std.proofs.lemmas.Result.{err_from_is_err_and}
 use Rattle.sl_tmframe.specs.PacketFrame.{field_room_of}
-use Rattle.sl_tmflow.specs.Form.{field_frames, frames_len, frames_of}
+use Rattle.sl_tmflow.specs.Form.{field_frames, frames_len, filled_frames}
 use Rattle.sl_tmflow.proofs.lemmas.Form.Frames.{FillsUp, none_filled, few_beyond, fields_of_both, frames_len_of_first, frames_len_of_both, beyond_both, frames_of_both, small_piece}
 use Rattle.sl_tmflow.proofs.form.add_packet.Goals.{After-split_at, Then-packet-wanted}
 use Rattle.sl_tmflow.proofs.form.add_packet.Goals as goal
@@ -56,9 +56,9 @@ pub returns-clause-frames : goal.returns-clause-frames
 returns-clause-frames c =
     let form = c.args.form.now.items in
     let middle = c.push_fields-pushed.new.form.items in
-    let first = frames_of c.args.shape.now c.args.heading (Some c.args.start) in
+    let first = filled_frames c.args.shape.now c.args.heading (Some c.args.start) in
     let one = c.in_ok-pushed.ensures.frames ∙ ap (λ l. form ++ first l) (c.as_slice.ensures.value ∙ c.in_ok-extend_from_slice-2.ensures.items) in
-    let two = c.in_ok-push_fields.ensures.frames ∙ ap (λ h. middle ++ frames_of c.args.shape.now h None c.split_at.result.1.now) c.after.ensures in
+    let two = c.in_ok-push_fields.ensures.frames ∙ ap (λ h. middle ++ filled_frames c.args.shape.now h None c.split_at.result.1.now) c.after.ensures in
     frames_of_both (fills_up (goal.at.returns-clause-frames c).After-split_at) c.args.heading (Some c.args.start) form middle c.push_fields.new.form.items one two
 
 pub returns-clause-beyond : goal.returns-clause-beyond

@@ -5,7 +5,7 @@ use Rattle.std.specs.List.{slice_index_or}
 use Rattle.std.proofs.lemmas.Bool.Decides.{eqb_tells}
 use Rattle.std.proofs.lemmas.List.{get_or_default, get_or-set_same, get_or-set_other}
 use Rattle.std.proofs.lemmas.List.Elements.{filter-append}
-use Rattle.sl_packet.specs.Front.{Front, front}
+use Rattle.sl_packet.specs.Front.{Front, front_of}
 use Rattle.sl_packet.specs.Stopping.{HandsOver}
 use Rattle.sl_packet.specs.declared.flow_fault.FlowFault.{FlowFault}
 use Rattle.sl_packet.specs.declared.sink.SinkFault.{SinkFault}
@@ -61,7 +61,7 @@ none_kept count held next pointer octets is = grind (arith, not_past_start)
 rest_held : (view : TmView) (octet : ℕ) (rest : List ℕ) (f : Front) → held_as (incomplete_in f (octet ∷ rest)) ≡ incomplete_octets (outcome_of_front f view (octet ∷ rest) [])
 rest_held view octet rest f = grind arith
 
-held_at_rest : (view : TmView) (rest : List ℕ) → held_as (incomplete_in (front rest) rest) ≡ at_rest (λ l. incomplete_octets (outcome_of view l [])) rest
+held_at_rest : (view : TmView) (rest : List ℕ) → held_as (incomplete_in (front_of rest) rest) ≡ at_rest (λ l. incomplete_octets (outcome_of view l [])) rest
 held_at_rest view rest = grind (arith, rest_held)
 
 incomplete_in_field : (view : TmView) (field : DataField) (kept : List ℕ) → ((pointer : ℕ) (octets : List ℕ) → field ≡ Packets (Some pointer) octets → kept ≡ [])

@@ -5,7 +5,7 @@ use Rattle.std.proofs.lemmas.Bool.{cases_lt}
 use Rattle.std.proofs.lemmas.List.{append_cancel_left, length_push, take-append-drop, take-append-le, take_at, nil_from_length}
 use Rattle.std.specs.List.{AllByRecursion, concat}
 use Rattle.sl_packet.specs.Packet.{IsPacket}
-use Rattle.sl_packet.specs.Front.{Incomplete, WholePacket, front}
+use Rattle.sl_packet.specs.Front.{Incomplete, WholePacket, front_of}
 use Rattle.sl_packet.specs.Packets.{packets_of, rest_of}
 use Rattle.sl_packet.proofs.PacketLemmas.{one_packet}
 use Rattle.sl_packet.proofs.PacketsLemmas.{rest_of-concat, rest_of-none}
@@ -45,9 +45,9 @@ rest_within octets = omega (arith, length-drop (length (concat (packets_of octet
 
 -- a packet is whole where another packet starts later in the field
 pub not_last_is_whole : (octets : List ℕ) (first : Option ℕ) (start later : ℕ)
-    → IsStart octets first start → IsStart octets first later → start < later → front (drop start octets) ≡ Incomplete → ⊥
+    → IsStart octets first start → IsStart octets first later → start < later → front_of (drop start octets) ≡ Incomplete → ⊥
 not_last_is_whole octets first start later is_start is_later less incomplete =
-    let none = λ (len : ℕ) (whole : front (drop start octets) ≡ WholePacket len). let both : Incomplete ≡ WholePacket len = sym incomplete ∙ whole in absurd (cc) in
+    let none = λ (len : ℕ) (whole : front_of (drop start octets) ≡ WholePacket len). let both : Incomplete ≡ WholePacket len = sym incomplete ∙ whole in absurd (cc) in
     let pointers : is_start.pointer ≡ is_later.pointer = same_Some is_start.pointer is_later.pointer (sym is_start.pointed ∙ is_later.pointed) in
     let all : drop start octets ≡ rest_of (drop later octets) =
     sym (rest_of-none (drop start octets) none) ∙ sym (rest_from_start octets first start is_start)

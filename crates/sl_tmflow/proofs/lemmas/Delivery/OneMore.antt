@@ -6,7 +6,7 @@ use Rattle.std.proofs.lemmas.List.{map-append, map-id, take_at}
 use Rattle.std.proofs.lemmas.List.Concat.{flat_map_single}
 use Rattle.std.proofs.lemmas.List.Elements.{filter-append}
 use Rattle.sl_packet.specs.Packet.{IsPacket}
-use Rattle.sl_packet.specs.Front.{Front, WholePacket, front}
+use Rattle.sl_packet.specs.Front.{Front, WholePacket, front_of}
 use Rattle.sl_packet.specs.Packets.{whole_at, packets_of, rest_of}
 use Rattle.sl_packet.proofs.FrontLemmas.{packet_is_whole}
 use Rattle.sl_tmframe.specs.TmFrame.{TmView, DataField, Packets, Idle, Opaque}
@@ -42,7 +42,7 @@ front-push f view octets later next = grind (arith, outcome_after-push)
 
 pub outcome_of-push : (view : TmView) (octets : List ℕ) (later : List TmView) (next : TmView)
     → outcome_of view octets (later ++ next ∷ []) ≡ with_next (length later + 1) (last_of view later) next (outcome_of view octets later)
-outcome_of-push view octets later next = front-push (front octets) view octets later next
+outcome_of-push view octets later next = front-push (front_of octets) view octets later next
 
 -- ---- the packet that is incomplete
 
@@ -105,10 +105,10 @@ pub at_last : (frame start : ℕ) (view : TmView) (octets : List ℕ) (f : Front
     → packets_at frame (delivery_of frame start (outcome_of_front f view octets [])) ≡ whole_at f octets
 at_last frame start view octets f = grind (arith, eq-eqb)
 
-packet_first : (packet more : List ℕ) → IsPacket packet → whole_at (front (packet ++ more)) (packet ++ more) ≡ packet ∷ []
+packet_first : (packet more : List ℕ) → IsPacket packet → whole_at (front_of (packet ++ more)) (packet ++ more) ≡ packet ∷ []
 packet_first packet more is_packet = grind (arith, packet_is_whole, take_at)
 
-none_at_rest : (rest : List ℕ) → ((len : ℕ) → front rest ≡ WholePacket len → ⊥) → at_rest (λ l. whole_at (front l) l) rest ≡ []
+none_at_rest : (rest : List ℕ) → ((len : ℕ) → front_of rest ≡ WholePacket len → ⊥) → at_rest (λ l. whole_at (front_of l) l) rest ≡ []
 none_at_rest rest none = grind arith
 
 at_last_field : (frame : ℕ) (view : TmView) (field : DataField) → packets_at frame (field_deliveries frame view [] field) ≡ whole_packets field
@@ -116,9 +116,9 @@ at_last_field frame view (Packets None octets) = refl
 at_last_field frame view (Packets (Some pointer) octets) =
     let whole = packets_of (drop pointer octets) in
     flat_map-pieces (packets_at frame) refl (packets_at-append frame)
-    (λ start. delivery_of frame start (outcome_of view (drop start octets) [])) (λ start. whole_at (front (drop start octets)) (drop start octets))
-    (λ start. at_last frame start view (drop start octets) (front (drop start octets))) (starts_from (Some pointer) octets)
-    ∙ at_starts (λ l. whole_at (front l) l) (λ packet. packet ∷ []) packet_first pointer octets
+    (λ start. delivery_of frame start (outcome_of view (drop start octets) [])) (λ start. whole_at (front_of (drop start octets)) (drop start octets))
+    (λ start. at_last frame start view (drop start octets) (front_of (drop start octets))) (starts_from (Some pointer) octets)
+    ∙ at_starts (λ l. whole_at (front_of l) l) (λ packet. packet ∷ []) packet_first pointer octets
     ∙ ap₂ (λ xs ys. xs ++ ys) (flat_map_single (λ packet. packet) whole ∙ map-id whole)
     (none_at_rest (rest_of (drop pointer octets)) (none_in_rest (drop pointer octets)))
     ∙ append-nil whole

@@ -4,7 +4,7 @@ use Rattle.std.specs.List.{AllByRecursion, concat}
 use Rattle.std.proofs.lemmas.Bool.{cases_lt}
 use Rattle.std.proofs.lemmas.List.{take-append-drop, same_from_push, take_at, length_push}
 use Rattle.sl_packet.specs.Packet.{IsPacket}
-use Rattle.sl_packet.specs.Front.{Front, OtherVersion, Incomplete, WholePacket, front}
+use Rattle.sl_packet.specs.Front.{Front, OtherVersion, Incomplete, WholePacket, front_of}
 use Rattle.sl_packet.proofs.FrontLemmas.{whole_is_a_packet, packet_is_whole}
 use Rattle.sl_tmframe.specs.TmFrame.{TmView, DataField, Packets, Idle, Opaque}
 use Rattle.sl_tmflow.specs.VirtualChannel.{is_consecutive, packet_data, data_of, reassembly}
@@ -18,7 +18,7 @@ use Rattle.sl_tmflow.proofs.lemmas.Incomplete.After.{IsIncompleteAfter, reassemb
 -- ---- an incomplete packet that ends in the next frame
 
 -- octets that begin a packet that isn't there whole are fewer than the packet has
-shorter_than_packet : (octets more packet rest : List ℕ) → IsPacket packet → octets ++ more ≡ packet ++ rest → front octets ≡ Incomplete → length octets < length packet
+shorter_than_packet : (octets more packet rest : List ℕ) → IsPacket packet → octets ++ more ≡ packet ++ rest → front_of octets ≡ Incomplete → length octets < length packet
 shorter_than_packet octets more packet rest is_packet same incomplete = grind (arith, cases_lt, incomplete_is_no_packet, prefix_of_first)
 
 same_packets : (a b : Option ℕ) (xs ys : List ℕ) → Packets a xs ≡ Packets b ys → (a ≡ b) × (xs ≡ ys)
@@ -99,7 +99,7 @@ delivered_after first start run passed view octets (next ∷ later) packet n hel
           (delivered_after first start (run ++ next ∷ []) (passed + 1) next (octets ++ packet_data next) later packet n now one_more there.1)
     ]
 
-whole_delivered : (view : TmView) (octets : List ℕ) (len : ℕ) → front octets ≡ WholePacket len → IsDeliveredBy view octets [] (take len octets)
+whole_delivered : (view : TmView) (octets : List ℕ) (len : ℕ) → front_of octets ≡ WholePacket len → IsDeliveredBy view octets [] (take len octets)
 whole_delivered view octets len whole =
     record {
       is_packet = (whole_is_a_packet octets len whole).0;
@@ -115,9 +115,9 @@ same_outcome p q m n same = (cc, cc)
 
 pub outcome_delivered : (view : TmView) (octets : List ℕ) (later : List TmView) (packet : List ℕ) (n : ℕ) → outcome_of view octets later ≡ Completes packet n
     → IsDeliveredWithin view octets later packet n
-outcome_delivered view octets later packet n completes = cases (front octets) refl completes
+outcome_delivered view octets later packet n completes = cases (front_of octets) refl completes
   where
-    cases : (f : Front) → front octets ≡ f → outcome_of_front f view octets later ≡ Completes packet n → IsDeliveredWithin view octets later packet n
+    cases : (f : Front) → front_of octets ≡ f → outcome_of_front f view octets later ≡ Completes packet n → IsDeliveredWithin view octets later packet n
     cases OtherVersion is outcome = absurd (cc)
     cases Incomplete is outcome = delivered_after view octets [] 0 view octets later packet n (is_incomplete_at_start view octets is) refl outcome
     cases (WholePacket len) is outcome =
@@ -159,7 +159,7 @@ longer_than_before view octets next run packet delivered =
 
 -- where a packet takes another frame, it isn't whole before
 pub incomplete_before_more : (view : TmView) (octets : List ℕ) (next : TmView) (run : List TmView) (packet : List ℕ) → IsDeliveredBy view octets (next ∷ run) packet
-    → front octets ≡ Incomplete
+    → front_of octets ≡ Incomplete
 incomplete_before_more view octets next run packet delivered = grind (arith, incomplete_before_end, longer_than_before)
 
 agreed_first : (view : TmView) (octets : List ℕ) (next : TmView) (run : List TmView) (packet : List ℕ) (first : Option ℕ) (field : List ℕ)
@@ -218,7 +218,7 @@ pub delivered_outcome : (view : TmView) (octets : List ℕ) (run after : List Tm
     → outcome_of view octets (run ++ after) ≡ Completes packet (length run)
 delivered_outcome view octets [] after packet delivered =
     let all : octets ≡ packet ++ delivered.ends.0 = sym (delivered.ends.1 ∙ append-nil octets) in
-    ap (λ f. outcome_of_front f view octets after) (ap front all ∙ packet_is_whole packet delivered.ends.0 delivered.is_packet)
+    ap (λ f. outcome_of_front f view octets after) (ap front_of all ∙ packet_is_whole packet delivered.ends.0 delivered.is_packet)
     ∙ ap (λ l. Completes (take (length packet) l) 0) all ∙ ap (λ l. Completes l 0) (take_at packet delivered.ends.0 (length packet) refl)
 delivered_outcome view octets (next ∷ run) after packet delivered =
     ap (λ f. outcome_of_front f view octets (next ∷ run ++ after)) (incomplete_before_more view octets next run packet delivered)

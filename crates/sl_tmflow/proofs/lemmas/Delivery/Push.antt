@@ -4,7 +4,7 @@ use Rattle.std.specs.List.{AllByRecursion, flat_map}
 use Rattle.std.proofs.lemmas.List.{map-append, map-id, take_at}
 use Rattle.std.proofs.lemmas.List.Concat.{flat_map_single}
 use Rattle.sl_packet.specs.Packet.{IsPacket}
-use Rattle.sl_packet.specs.Front.{Front, front}
+use Rattle.sl_packet.specs.Front.{Front, front_of}
 use Rattle.sl_packet.specs.Packets.{whole_at, packets_of, rest_of}
 use Rattle.sl_packet.proofs.FrontLemmas.{packet_is_whole}
 use Rattle.sl_tmframe.specs.TmFrame.{TmView, DataField, Packets, Idle, Opaque}
@@ -91,11 +91,11 @@ last_frame : (frame : ℕ) (view : TmView) → packets_delivered (frame_deliveri
 last_frame frame view =
     let octets = λ (start : ℕ). drop start (packet_data view) in
     let at = λ (start : ℕ). delivery_of frame start (outcome_of view (octets start) []) in
-    let whole = λ (start : ℕ). whole_at (front (octets start)) (octets start) in
+    let whole = λ (start : ℕ). whole_at (front_of (octets start)) (octets start) in
     flat_map-pieces packets_delivered refl delivered-append at whole
-    (λ start. at_end frame start view (octets start) (front (octets start))) (starts_of view.field)
+    (λ start. at_end frame start view (octets start) (front_of (octets start))) (starts_of view.field)
     ∙ sym (flat_map-pieces (packets_at frame) refl (packets_at-append frame) at whole
-    (λ start. at_last frame start view (octets start) (front (octets start))) (starts_of view.field))
+    (λ start. at_last frame start view (octets start) (front_of (octets start))) (starts_of view.field))
 
 -- ---- no packet starts after one that is incomplete
 

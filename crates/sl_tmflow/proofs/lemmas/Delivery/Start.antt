@@ -5,7 +5,7 @@ use Rattle.std.specs.Prelude.{⊤}
 use Rattle.std.specs.List.{AllByRecursion, concat, flat_map}
 use Rattle.std.proofs.lemmas.List.{drop-drop, drop_at, length_push, take-append-drop}
 use Rattle.sl_packet.specs.Packet.{IsPacket}
-use Rattle.sl_packet.specs.Front.{WholePacket, front}
+use Rattle.sl_packet.specs.Front.{WholePacket, front_of}
 use Rattle.sl_packet.specs.Packets.{packets_of, rest_of}
 use Rattle.sl_packet.proofs.FrontLemmas.{whole_is_a_packet}
 use Rattle.sl_packet.proofs.PacketLemmas.{packet_least}
@@ -142,7 +142,7 @@ pub at_starts : (f g : List ℕ → List (List ℕ)) → ((packet more : List �
 at_starts f g at_packet pointer octets = grind (arith, each_has_packets, at_offsets)
 
 -- no packet is whole in the octets after packets
-pub none_in_rest : (octets : List ℕ) (len : ℕ) → front (rest_of octets) ≡ WholePacket len → ⊥
+pub none_in_rest : (octets : List ℕ) (len : ℕ) → front_of (rest_of octets) ≡ WholePacket len → ⊥
 none_in_rest octets len whole =
     (each_has_packets octets).no_more (take len (rest_of octets)) (drop len (rest_of octets)) (whole_is_a_packet (rest_of octets) len whole).0
     (sym (take-append-drop len (rest_of octets)))

@@ -4,7 +4,7 @@ use Rattle.std.proofs.lemmas.Grind.{common_steps}
 use Rattle.std.proofs.lemmas.List.{take-append-drop, take-append-le, take_at, length-take-le}
 use mathlib.Core.List.{IsPrefix}
 use Rattle.sl_packet.specs.Packet.{IsPacket}
-use Rattle.sl_packet.specs.Front.{Front, Incomplete, WholePacket, front}
+use Rattle.sl_packet.specs.Front.{Front, Incomplete, WholePacket, front_of}
 use Rattle.sl_packet.proofs.FrontLemmas.{whole_is_a_packet, packet_is_whole, foreign_is_no_packet, incomplete_may_become_whole}
 use Rattle.sl_tmframe.specs.TmFrame.{TmView, DataField, Packets, Idle, Opaque}
 use Rattle.sl_tmflow.specs.VirtualChannel.{is_consecutive, data_of}
@@ -20,15 +20,15 @@ prefix_of_first octets more packet rest same inside =
     (drop (length packet) octets, ap (λ l. l ++ drop (length packet) octets) (sym first) ∙ take-append-drop (length packet) octets)
 
 -- a packet isn't whole before its end
-pub incomplete_before_end : (octets more packet rest : List ℕ) → IsPacket packet → octets ++ more ≡ packet ++ rest → length octets < length packet → front octets ≡ Incomplete
+pub incomplete_before_end : (octets more packet rest : List ℕ) → IsPacket packet → octets ++ more ≡ packet ++ rest → length octets < length packet → front_of octets ≡ Incomplete
 incomplete_before_end octets more packet rest is_packet same short = grind (arith, common_steps, foreign_is_no_packet, whole_is_a_packet, append_assoc, take-append-drop, length-take-le)
 
 -- where no packet is whole, none was whole before
-pub incomplete_before : (octets more : List ℕ) → front (octets ++ more) ≡ Incomplete → front octets ≡ Incomplete
+pub incomplete_before : (octets more : List ℕ) → front_of (octets ++ more) ≡ Incomplete → front_of octets ≡ Incomplete
 incomplete_before octets more incomplete = grind (arith, common_steps, incomplete_may_become_whole, foreign_is_no_packet, append_assoc, append-nil, whole_is_a_packet, take-append-drop, packet_is_whole)
 
 -- where no packet is whole, none lies at the front
-pub incomplete_is_no_packet : (octets packet : List ℕ) → IsPacket packet → front octets ≡ Incomplete → IsPrefix packet octets → ⊥
+pub incomplete_is_no_packet : (octets packet : List ℕ) → IsPacket packet → front_of octets ≡ Incomplete → IsPrefix packet octets → ⊥
 incomplete_is_no_packet octets packet is_packet incomplete prefix = grind (arith, packet_is_whole)
 
 -- ---- pointers
@@ -52,7 +52,7 @@ pub record EndsIn (octets : List ℕ) (field : DataField) (packet : List ℕ) : 
 pub record GoesOnPast (octets : List ℕ) (field : DataField) : Type 0 where
   pub is_read : field ≢ Opaque
   pub no_start : (first : Option ℕ) (carried : List ℕ) → field ≡ Packets first carried → first ≡ None
-  pub incomplete : front (octets ++ data_of field) ≡ Incomplete
+  pub incomplete : front_of (octets ++ data_of field) ≡ Incomplete
 
 ends_test : (b : Bool) (whole packet : List ℕ) → (if b then Ends whole else Breaks) ≡ Ends packet → (b ≡ true) × (whole ≡ packet)
 ends_test b whole packet ends = grind arith
@@ -66,7 +66,7 @@ front_ends first before field all f packet ends = grind (arith, no_end, ends_tes
 
 pub field_ends : (octets : List ℕ) (field : DataField) (packet : List ℕ) → field_step octets field ≡ Ends packet → EndsIn octets field packet
 field_ends octets (Packets first carried) packet is_end =
-    let (len, is_whole, agrees, packet_is) = front_ends first (length octets) carried (octets ++ carried) (front (octets ++ carried)) packet is_end in
+    let (len, is_whole, agrees, packet_is) = front_ends first (length octets) carried (octets ++ carried) (front_of (octets ++ carried)) packet is_end in
     let whole = whole_is_a_packet (octets ++ carried) len is_whole in
     let len_is : len ≡ length packet = sym (length-take-le len (octets ++ carried) whole.1) ∙ ap length packet_is in
     record {
@@ -99,7 +99,7 @@ pub ends_step : (view : TmView) (octets : List ℕ) (next : TmView) (packet : Li
     → step_of view octets next ≡ Ends packet
 ends_step view octets next packet consecutive ending = grind (arith, common_steps, ends_field)
 
-pub step_continues : (view : TmView) (octets : List ℕ) (next : TmView) → front octets ≡ Incomplete → step_of view octets next ≡ Continues
+pub step_continues : (view : TmView) (octets : List ℕ) (next : TmView) → front_of octets ≡ Incomplete → step_of view octets next ≡ Continues
     → (is_consecutive view next ≡ true) × GoesOnPast octets next.field
 step_continues view octets next incomplete continues = grind (arith, front_continues, append-nil)
 

@@ -6,7 +6,7 @@ use Rattle.std.proofs.lemmas.Bool.Decides.{leb_tells}
 use Rattle.std.proofs.lemmas.List.{map-append, take-append-drop, take-append-le}
 use Rattle.std.proofs.Math.Nat.{zero-mul, suc-mul}
 use Rattle.std.proofs.Math.Seq.{take-append-add, drop-append_seam, take-nil}
-use Rattle.sl_packet.specs.Front.{Incomplete, front}
+use Rattle.sl_packet.specs.Front.{Incomplete, front_of}
 use Rattle.sl_packet.specs.Packet.{IsPacket}
 use Rattle.sl_packet.specs.Packets.{packets_of, rest_of}
 use Rattle.sl_packet.proofs.PacketLemmas.{packet_least}
@@ -43,7 +43,7 @@ delivered_in view later octets = packets_of octets ++ at_rest (λ l. completed (
 in_packet : (view : TmView) (later : List TmView) (packet octets : List ℕ) → IsPacket packet → delivered_in view later (packet ++ octets) ≡ packet ∷ delivered_in view later octets
 in_packet view later packet octets is_packet = grind (arith, packets_of-packet, rest_of-packet)
 
-in_begun : (view : TmView) (later : List TmView) (octets : List ℕ) → 0 < length octets → front octets ≡ Incomplete
+in_begun : (view : TmView) (later : List TmView) (octets : List ℕ) → 0 < length octets → front_of octets ≡ Incomplete
     → delivered_in view later octets ≡ completed (outcome_of_front Incomplete view octets later)
 in_begun view later octets some incomplete = grind (arith, packets_of-none, rest_of-none)
 
@@ -166,7 +166,7 @@ module _ (room vc mc : ℕ) (packets : List (List ℕ)) where
             let split : octets ++ more ≡ packet = take-append-drop all packet in
             let long : length octets ≡ all = length-take-le all packet inside in
             let p : IsPacket (octets ++ more) = subst IsPacket (sym split) is_inside.each.0 in
-            let incomplete : front octets ≡ Incomplete =
+            let incomplete : front_of octets ≡ Incomplete =
             incomplete_before_end octets more packet [] is_inside.each.0 (split ∙ sym (append-nil packet)) (omega (arith, long, longer)) in
             let rest : 0 < length more = omega (arith, length-drop all packet, longer) in
             ap (λ l. delivered_in here next l ++ later) (take-append-le all packet (concat todo) inside)

@@ -11,7 +11,7 @@ use Rattle.sl_fields.proofs.Octets.{length-octets_of}
 use Rattle.sl_tmframe.proofs.PacketFrameLemmas.{with_fecf_whole}
 use Rattle.sl_tmframe.specs.PacketFrame.{field_room_of}
 use Rattle.sl_tmframe.specs.TmFrame.{TmFormat}
-use Rattle.sl_tmflow.specs.Form.{field_frames, frames_len, frames_of, fields_in, beyond_fields, filled_up, headed_frame, heading_after}
+use Rattle.sl_tmflow.specs.Form.{field_frames, frames_len, filled_frames, fields_in, beyond_fields, filled_up, headed_frame, heading_after}
 use Rattle.sl_tmflow.specs.declared.form.Heading.{Heading}
 use Rattle.sl_tmflow.specs.NormalForm.{filling}
 use Rattle.sl_tmflow.proofs.lemmas.Form.Fill.{fill_inside, fill_is_least, filling_is}
@@ -86,12 +86,12 @@ module _ {format : TmFormat} {octets packet head rest : List ℕ} (s : FillsUp f
       ap (λ n. drop n (octets ++ packet)) at ∙ ap (drop (length (octets ++ head) + from)) both ∙ sym (drop-drop from (length (octets ++ head)) ((octets ++ head) ++ rest)) ∙ ap (drop from) (drop-append_seam (octets ++ head) rest)
 
   pub frames_of_both : (heading : Heading) (first : Option ℕ) (form form₁ form₂ : List ℕ)
-      → form₁ ≡ form ++ frames_of format heading first (octets ++ head) → form₂ ≡ form₁ ++ frames_of format (heading_after heading 1) None rest
-      → form₂ ≡ form ++ frames_of format heading first (octets ++ packet)
+      → form₁ ≡ form ++ filled_frames format heading first (octets ++ head) → form₂ ≡ form₁ ++ filled_frames format (heading_after heading 1) None rest
+      → form₂ ≡ form ++ filled_frames format heading first (octets ++ packet)
   frames_of_both heading first form form₁ form₂ one two =
       let frame = headed_frame format heading first (octets ++ head) in
-      let others = frames_of format (heading_after heading 1) None rest in
-      let alone : frames_of format heading first (octets ++ head) ≡ frame =
+      let others = filled_frames format (heading_after heading 1) None rest in
+      let alone : filled_frames format heading first (octets ++ head) ≡ frame =
       next_field format heading first (octets ++ head) (octets ++ head) [] s.roomy (sym (append-nil (octets ++ head))) s.whole
       ∙ ap (λ n. frame ++ field_frames format n (heading_after heading 1) None []) (zero-div (field_room_of format)) ∙ append-nil frame in
       two ∙ ap (λ f. f ++ others) (one ∙ ap (λ f. form ++ f) alone) ∙ append_assoc form frame others

@@ -15,7 +15,7 @@ use Rattle.sl_packet.specs.Delivered.{IsDeliverable}
 use Rattle.sl_packet.specs.IdlePacket.{idle_packet}
 use Rattle.sl_tmframe.specs.PacketFrame.{field_room_of}
 use Rattle.sl_tmframe.specs.TmFrame.{TmFormat}
-use Rattle.sl_tmflow.specs.Form.{beyond_fields, channel_left, field_frames, fields_in, filled_up, form_left, form_of, frames_of, heading_after, lists_left, next_channel, start_after}
+use Rattle.sl_tmflow.specs.Form.{beyond_fields, channel_left, field_frames, fields_in, filled_up, form_left, form_of, filled_frames, heading_after, lists_left, next_channel, start_after}
 use Rattle.sl_tmflow.specs.NormalForm.{channel_frame, channel_frames, fill_of, filling, frames_from_channel, with_filling}
 use Rattle.sl_tmflow.specs.FormModel.{IsTmForm, octets_to_come}
 use Rattle.sl_tmflow.specs.declared.form.Heading.{Heading}
@@ -29,7 +29,7 @@ use Rattle.sl_tmflow.proofs.lemmas.Form.Pieces.{IsPending, beyond_few, fields_ar
 -- ---- the code's steps
 
 last_frames : (format : TmFormat) (h : Heading) (start : ℕ) (octets : List ℕ) (others : Heading → List ℕ) → 0 < length octets
-    → channel_left format h start octets [] others ≡ frames_of format h (Some start) (filled_up format octets) ++ others (heading_after h (fields_in format (filled_up format octets)))
+    → channel_left format h start octets [] others ≡ filled_frames format h (Some start) (filled_up format octets) ++ others (heading_after h (fields_in format (filled_up format octets)))
 last_frames format h start [] others some = absurd (omega arith)
 last_frames format h start (octet ∷ octets) others some = refl
 
@@ -37,14 +37,14 @@ module _ (format : TmFormat) (h h' : Heading) (start start' : ℕ) (octets octet
   -- a packet is taken
   pub takes_packet : (packet : List ℕ) → packets ≡ packet ∷ packets' → octets' ≡ beyond_fields format (octets ++ packet) → frames ≡ fields_in format (octets ++ packet)
       → h' ≡ heading_after h frames → start' ≡ start_after start frames octets'
-      → form_left format h start octets packets (drop (h.vc + 1) lists) ≡ frames_of format h (Some start) (octets ++ packet) ++ form_left format h' start' octets' packets' (drop (h'.vc + 1) lists)
+      → form_left format h start octets packets (drop (h.vc + 1) lists) ≡ filled_frames format h (Some start) (octets ++ packet) ++ form_left format h' start' octets' packets' (drop (h'.vc + 1) lists)
   unfolding form_left
   takes_packet packet are beyond many head next = rw (are, next, head, beyond, many) refl
 
   -- the octets are filled up
   pub fills_up : 7 ≤ field_room_of format → field_room_of format ≤ 65536 → 0 < length octets → packets ≡ [] → octets' ≡ beyond_fields format (filled_up format octets) → frames ≡ fields_in format (filled_up format octets)
       → h' ≡ heading_after h frames
-      → form_left format h start octets packets (drop (h.vc + 1) lists) ≡ frames_of format h (Some start) (filled_up format octets) ++ form_left format h' start' octets' packets (drop (h'.vc + 1) lists)
+      → form_left format h start octets packets (drop (h.vc + 1) lists) ≡ filled_frames format h (Some start) (filled_up format octets) ++ form_left format h' start' octets' packets (drop (h'.vc + 1) lists)
   unfolding form_left
   fills_up wide short some none beyond many head = rw (none, head, beyond ∙ none_beyond_filling format octets wide short, many) (last_frames format h start octets _ some)
 
@@ -92,7 +92,7 @@ module _ (format : TmFormat) (spacecraft vc before : ℕ) (packets : List (List 
   -- the frames that a packet completes are the next ones
   next_frames : (count many start : ℕ) (octets packet : List ℕ) (later : List (List ℕ)) → length octets < room → IsPending room filled count start octets (packet ∷ later) → count + many ≡ length (concat filled) / room
       → (fields_in format (octets ++ packet) ≤ many)
-      × (frames count many ≡ frames_of format (heading count) (Some start) (octets ++ packet) ++ frames (count + fields_in format (octets ++ packet)) (many - fields_in format (octets ++ packet)))
+      × (frames count many ≡ filled_frames format (heading count) (Some start) (octets ++ packet) ++ frames (count + fields_in format (octets ++ packet)) (many - fields_in format (octets ++ packet)))
   next_frames count many start octets packet later few p total =
       let all = octets ++ packet in
       let n = fields_in format all in
@@ -137,7 +137,7 @@ module _ (format : TmFormat) (spacecraft vc before : ℕ) (packets : List (List 
       ]
 
   some_kept : (count many start : ℕ) (octets : List ℕ) → 0 < length octets → length octets < room → IsPending room filled count start octets last → count + many ≡ length (concat filled) / room
-      → (frames count many ≡ frames_of format (heading count) (Some start) (filled_up format octets)) × (fields_in format (filled_up format octets) ≡ many)
+      → (frames count many ≡ filled_frames format (heading count) (Some start) (filled_up format octets)) × (fields_in format (filled_up format octets) ≡ many)
   some_kept count many start octets some few p total =
       let idle = concat (filling room (length octets)) in
       let all = octets ++ idle in
@@ -148,7 +148,7 @@ module _ (format : TmFormat) (spacecraft vc before : ℕ) (packets : List (List 
       omega (arith, ap length next.parts, next.size, length-append next.made (octets ++ (idle ++ [])), length-append octets (idle ++ []), length-append idle [], length-append octets idle, parts, filled_whole room packets wide short, ap (λ n. n * room) total, add-mul count many room) in
       let is : fields_in format all ≡ many = ap (λ n. n / room) rooms ∙ div-mul-add many room 0 (omega (arith, wide)) in
       let none : many - fields_in format all ≡ 0 = omega (arith, is) in
-      (split ∙ ap (λ n. frames_of format (heading count) (Some start) all ++ frames (count + fields_in format all) n) none ∙ append-nil (frames_of format (heading count) (Some start) all), is)
+      (split ∙ ap (λ n. filled_frames format (heading count) (Some start) all ++ frames (count + fields_in format all) n) none ∙ append-nil (filled_frames format (heading count) (Some start) all), is)
 
   -- the octets to come are those of the frames that weren't made, and those of later channels
   still_to_come : (later : List (List ℕ)) (count many start : ℕ) (octets : List ℕ) (others : Heading → List ℕ) → length octets < room → IsPending room filled count start octets (later ++ last)
@@ -156,7 +156,7 @@ module _ (format : TmFormat) (spacecraft vc before : ℕ) (packets : List (List 
   still_to_come (packet ∷ later) count many start octets others few p total =
       let all = octets ++ packet in
       let n = fields_in format all in
-      let these = frames_of format (heading count) (Some start) all in
+      let these = filled_frames format (heading count) (Some start) all in
       let (inside, split) = next_frames count many start octets packet (later ++ last) few p total in
       let end : count + n + (many - n) ≡ count + many = omega (arith, inside) in
       ap (λ k. these ++ channel_left format k (start_after start n (beyond_fields format all)) (beyond_fields format all) later others) (numbered_later spacecraft vc before count n)
@@ -171,7 +171,7 @@ module _ (format : TmFormat) (spacecraft vc before : ℕ) (packets : List (List 
   still_to_come [] count many start (octet ∷ octets) others few p total =
       let all = filled_up format (octet ∷ octets) in
       let (these, is) = some_kept count many start (octet ∷ octets) (omega arith) few p total in
-      ap (λ k. frames_of format (heading count) (Some start) all ++ others k) (numbered_later spacecraft vc before count (fields_in format all))
+      ap (λ k. filled_frames format (heading count) (Some start) all ++ others k) (numbered_later spacecraft vc before count (fields_in format all))
       ∙ ap₂ (λ f k. f ++ others (heading (count + k))) (sym these) is
 
   -- at the front of the channel no packet is taken
@@ -235,11 +235,11 @@ some_left format wide short [] h start [] others each some = absurd (omega arith
 some_left format wide short [] h start (octet ∷ octets) others each some =
     let all = filled_up format (octet ∷ octets) in
     let long = some_frames format (fields_in format all) h (Some start) all (some_filled format (octet ∷ octets) wide short (omega arith)) in
-    omega (arith, long, length-append (frames_of format h (Some start) all) (others (heading_after h (fields_in format all))))
+    omega (arith, long, length-append (filled_frames format h (Some start) all) (others (heading_after h (fields_in format all))))
 some_left format wide short (packet ∷ packets) h start octets others each some =
     let all = octets ++ packet in
     let n = fields_in format all in
-    let these = frames_of format h (Some start) all in
+    let these = filled_frames format h (Some start) all in
     let more = channel_left format (heading_after h n) (start_after start n (beyond_fields format all)) (beyond_fields format all) packets others in
     elim (eqb_tells n 0) [
       | inl (test, none) ↦

@@ -3,7 +3,7 @@ use Rattle.std.proofs.Common.{◌≡◌, ◌≢◌, ℕ, ◌+◌, true, List, []
 use Rattle.std.specs.List.{AllByRecursion, concat}
 use Rattle.std.proofs.lemmas.List.{map-append}
 use Rattle.std.proofs.lemmas.List.Folds.{concat-append}
-use Rattle.sl_packet.specs.Front.{Front, OtherVersion, Incomplete, WholePacket, front}
+use Rattle.sl_packet.specs.Front.{Front, OtherVersion, Incomplete, WholePacket, front_of}
 use Rattle.sl_tmframe.specs.TmFrame.{TmView, Opaque}
 use Rattle.sl_tmflow.specs.VirtualChannel.{is_consecutive, AreConsecutive, packet_data, reassembly}
 use Rattle.sl_tmflow.specs.Delivery.{Outcome, StillIncomplete, Continuation, Ends, Continues, Breaks, step_of, after_step, outcome_after, outcome_of_front, outcome_of}
@@ -32,7 +32,7 @@ pub record IsIncompleteAfter (view : TmView) (octets : List ℕ) (run : List TmV
   -- no frame of packets points to a packet after this one
   pub no_start : AllByRecursion HasNoStart run
   -- the octets so far begin a packet that isn't there whole
-  pub incomplete : front so_far ≡ Incomplete
+  pub incomplete : front_of so_far ≡ Incomplete
 
 -- ---- reassembled octets
 
@@ -59,7 +59,7 @@ pub consecutive-push : (view : TmView) (run : List TmView) (next : TmView) → A
 consecutive-push view [] next before test = (test, tt)
 consecutive-push view (v ∷ run) next before test = (before.0, consecutive-push v run next before.1 test)
 
-pub is_incomplete_at_start : (view : TmView) (octets : List ℕ) → front octets ≡ Incomplete → IsIncompleteAfter view octets [] view octets
+pub is_incomplete_at_start : (view : TmView) (octets : List ℕ) → front_of octets ≡ Incomplete → IsIncompleteAfter view octets [] view octets
 is_incomplete_at_start view octets incomplete =
     record { ended_by = refl; came = sym (append-nil octets); consecutive = tt; none_opaque = tt; no_start = tt; incomplete = incomplete }
 
@@ -112,7 +112,7 @@ incomplete_to_outcome passed view octets (next ∷ later) last so_far held =
     let past : GoesOnPast octets next.field = record {
       is_read = held.none_opaque.0;
       no_start = held.no_start.0;
-      incomplete = incomplete_before (octets ++ packet_data next) (concat (map packet_data later)) (ap front (sym came) ∙ held.incomplete);
+      incomplete = incomplete_before (octets ++ packet_data next) (concat (map packet_data later)) (ap front_of (sym came) ∙ held.incomplete);
     } in
     let rest : IsIncompleteAfter next (octets ++ packet_data next) later last so_far = record {
       ended_by = held.ended_by;
@@ -136,11 +136,11 @@ front_incomplete (WholePacket len) view octets later so_far still = absurd (cc)
 pub outcome_incomplete : (view : TmView) (octets : List ℕ) (later : List TmView) (so_far : List ℕ) → outcome_of view octets later ≡ StillIncomplete so_far
     → IsIncompleteAfter view octets later (last_of view later) so_far
 outcome_incomplete view octets later so_far still =
-    let (incomplete, held) = front_incomplete (front octets) view octets later so_far still in
+    let (incomplete, held) = front_incomplete (front_of octets) view octets later so_far still in
     outcome_to_incomplete 0 view octets [] view octets later so_far (is_incomplete_at_start view octets incomplete) held
 
 pub incomplete_outcome : (view : TmView) (octets : List ℕ) (later : List TmView) (last : TmView) (so_far : List ℕ) → IsIncompleteAfter view octets later last so_far
     → outcome_of view octets later ≡ StillIncomplete so_far
 incomplete_outcome view octets later last so_far held =
-    let incomplete : front octets ≡ Incomplete = incomplete_before octets (concat (map packet_data later)) (ap front (sym held.came) ∙ held.incomplete) in
+    let incomplete : front_of octets ≡ Incomplete = incomplete_before octets (concat (map packet_data later)) (ap front_of (sym held.came) ∙ held.incomplete) in
     ap (λ f. outcome_of_front f view octets later) incomplete ∙ incomplete_to_outcome 0 view octets later last so_far held

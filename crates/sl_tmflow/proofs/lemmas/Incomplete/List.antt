@@ -7,7 +7,7 @@ use Rattle.std.proofs.lemmas.Bool.{both_ways, ltb-true}
 use Rattle.std.proofs.lemmas.List.{take-append-drop}
 use mathlib.Core.List.{IsPrefix}
 use Rattle.sl_packet.specs.Packet.{version_of, stated_packet_len, IsPacket}
-use Rattle.sl_packet.specs.Front.{Front, OtherVersion, Incomplete, WholePacket, is_foreign, front}
+use Rattle.sl_packet.specs.Front.{Front, OtherVersion, Incomplete, WholePacket, is_foreign, front_of}
 use Rattle.sl_packet.specs.Packets.{packets_of, rest_of}
 use Rattle.sl_packet.proofs.FrontLemmas.{foreign_tests, not_foreign, packet_is_whole, whole_is_a_packet, incomplete_may_become_whole}
 use Rattle.sl_packet.proofs.PacketLemmas.{version_of-append}
@@ -86,14 +86,14 @@ one_is_incomplete channel = grind (arith, incomplete_cases)
 -- ---- octets that begin a packet
 
 -- octets that begin a packet have version 0
-begun_version : (octets : List ℕ) → front octets ≡ Incomplete → 1 ≤ length octets → version_of octets ≡ 0
+begun_version : (octets : List ℕ) → front_of octets ≡ Incomplete → 1 ≤ length octets → version_of octets ≡ 0
 begun_version octets incomplete some = grind (arith, incomplete_may_become_whole, version_of-append)
 
 -- octets of version 0 begin a packet where no packet is whole
-begins : (octets : List ℕ) → version_of octets ≡ 0 → ((packet : List ℕ) → IsPacket packet → IsPrefix packet octets → ⊥) → front octets ≡ Incomplete
-begins octets version none = cases (front octets) refl
+begins : (octets : List ℕ) → version_of octets ≡ 0 → ((packet : List ℕ) → IsPacket packet → IsPrefix packet octets → ⊥) → front_of octets ≡ Incomplete
+begins octets version none = cases (front_of octets) refl
   where
-    cases : (f : Front) → front octets ≡ f → f ≡ Incomplete
+    cases : (f : Front) → front_of octets ≡ f → f ≡ Incomplete
     cases OtherVersion is =
         let foreign = foreign_tests (is_foreign octets) (nat_lt (length octets) (stated_packet_len octets)) (stated_packet_len octets) is in
         absurd (both_ways (is_foreign octets) (not_foreign (length octets) (version_of octets) version) foreign)
@@ -169,7 +169,7 @@ each_incomplete_is_listed channel octets is_incomplete =
 -- ---- incomplete packets are short
 
 -- an incomplete packet has fewer octets than its header states
-pub fewer_than_stated : (octets : List ℕ) → front octets ≡ Incomplete → length octets < stated_packet_len octets
+pub fewer_than_stated : (octets : List ℕ) → front_of octets ≡ Incomplete → length octets < stated_packet_len octets
 fewer_than_stated octets incomplete = grind (arith, ltb-true)
 
 -- a header states 65,542 octets at most

@@ -3,7 +3,7 @@ use Rattle.std.proofs.Common.{◌≡◌, ℕ, ◌<◌, List, [], ◌∷◌, ◌+
 use Rattle.std.specs.List.{AllByRecursion, concat}
 use Rattle.std.proofs.lemmas.Bool.{cases_lt}
 use Rattle.std.proofs.lemmas.List.{length_push}
-use Rattle.sl_packet.specs.Front.{front}
+use Rattle.sl_packet.specs.Front.{front_of}
 use Rattle.sl_tmframe.specs.TmFrame.{TmView}
 use Rattle.sl_tmflow.specs.VirtualChannel.{packet_data}
 use Rattle.sl_tmflow.specs.Incomplete.{HasNoStart, IsIncomplete, OneStartIsIncomplete}
@@ -41,7 +41,7 @@ none_later_in_frame : (channel : List TmView) (octets : List ℕ) (one : IsIncom
     → IsStart one.field one.first later → one.offset < later → ⊥
 none_later_in_frame channel octets one later is_start less =
     let w = outcome_incomplete one.view (drop one.offset (packet_data one.view)) one.run octets (incomplete_start_outcome channel octets one) in
-    let begun = incomplete_before (drop one.offset one.field) (concat (map packet_data one.run)) (ap front (sym one.came) ∙ w.incomplete) in
+    let begun = incomplete_before (drop one.offset one.field) (concat (map packet_data one.run)) (ap front_of (sym one.came) ∙ w.incomplete) in
     not_last_is_whole one.field one.first one.offset later one.start is_start less begun
 
 -- where two incomplete packets start in one frame, neither start is before the other

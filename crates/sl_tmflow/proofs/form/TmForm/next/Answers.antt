@@ -4,7 +4,7 @@ use Rattle.std.proofs.lemmas.List.{nil_from_length}
 use Rattle.std.specs.Vec.{vec_items}
 use Rattle.sl_packet.proofs.StoppingLemmas.{on_err}
 use Rattle.sl_tmframe.specs.PacketFrame.{field_room_of}
-use Rattle.sl_tmflow.specs.Form.{fields_in, field_frames, filled_up, form_left, frames_of, start_after}
+use Rattle.sl_tmflow.specs.Form.{fields_in, field_frames, filled_up, form_left, filled_frames, start_after}
 use Rattle.sl_tmflow.proofs.lemmas.Form.Delivery.{short_room, wide_room}
 use Rattle.sl_tmflow.proofs.lemmas.Form.Left.{fills_up, next_comes, none_comes, octets_come, some_filled, some_frames, takes_packet}
 use Rattle.sl_tmflow.proofs.form.TmForm.next.Goals.{After-after-self-inside, Else-not-is_empty, In_default}
@@ -20,7 +20,7 @@ nothing c = nil_from_length c.loop-packet.self-inside.octets.items (omega (arith
 -- the packet completes these frames
 taken : (c : After-after-self-inside) (start : ℕ) → start ≡ start_after c.loop-packet.self-inside.start c.in_ok-frames.frames c.add_packet.new.octets.items
     → c.args.self.now.left
-    ≡ frames_of c.loop-packet.self-inside.shape c.loop-packet.self-inside.heading (Some c.loop-packet.self-inside.start) (c.reserve_piece.new.octets.items ++ c.as_slice-packet.result.now)
+    ≡ filled_frames c.loop-packet.self-inside.shape c.loop-packet.self-inside.heading (Some c.loop-packet.self-inside.start) (c.reserve_piece.new.octets.items ++ c.as_slice-packet.result.now)
     ++ form_left c.loop-packet.self-inside.shape c.after-self-inside.result start c.add_packet.new.octets.items (map vec_items c.in-Some.later.now)
     (drop (c.after-self-inside.result.vc + 1) (take 8 c.loop-packet.self-inside.delivered.now.lists))
 taken c start next =
@@ -42,7 +42,7 @@ pub returns-then-frames-gt0-clause-piece : goal.returns-then-frames-gt0-clause-p
 returns-then-frames-gt0-clause-piece c = λ _.
     let f = c.loop-packet.self-inside in
     let all = c.reserve_piece.new.octets.items ++ c.as_slice-packet.result.now in
-    let piece = frames_of f.shape f.heading (Some f.start) all in
+    let piece = filled_frames f.shape f.heading (Some f.start) all in
     let some : 0 < fields_in f.shape all = omega (arith, c.if-frames-gt0.true, c.in_ok-frames.ensures.count) in
     let test : (c.in_ok-frames.frames == 0) ≡ false = ne_eqb c.in_ok-frames.frames 0 (λ none. absurd (omega (arith, c.if-frames-gt0.true, none))) in
     let next : c.len.result ≡ start_after f.start c.in_ok-frames.frames c.add_packet.new.octets.items = rw (test) (omega (arith, c.len.ensures)) in
@@ -82,7 +82,7 @@ returns-then-not-is_empty-clause-piece c = λ _.
     let octets = c.reserve_piece-then-not-is_empty.new.octets.items in
     let packets = map vec_items f.packets.now in
     let lists = take 8 f.delivered.now.lists in
-    let piece = frames_of f.shape f.heading (Some f.start) (filled_up f.shape octets) in
+    let piece = filled_frames f.shape f.heading (Some f.start) (filled_up f.shape octets) in
     let wide : 7 ≤ field_room_of f.shape = omega (arith, wide_room f.shape i.is.format) in
     let short : field_room_of f.shape ≤ 65536 = omega (arith, short_room f.shape i.is.format) in
     let same = c.reserve_piece-then-not-is_empty.ensures.octets in

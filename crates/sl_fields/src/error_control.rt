@@ -117,7 +117,7 @@ fn after_octets(register: Register, octets: &[u8]) -> Register
 fn after_octet(register: Register, octet: u8) -> Register
     ensures { TakesIn register (octet ∷ []) result }
 {
-    let word = word(register.high ^ octet);
+    let word = table_word(register.high ^ octet);
     Register {
         high: register.low ^ word[0],
         low: word[1],
@@ -126,7 +126,7 @@ fn after_octet(register: Register, octet: u8) -> Register
 
 // The table's word for these eight bits: their remainder with sixteen zeros after them.
 #[inline(always)]
-fn word(octet: u8) -> [u8; 2]
+fn table_word(octet: u8) -> [u8; 2]
     ensures { number_of result ≡ word_of 0 octet }
 {
     WORDS[usize::from(octet)]

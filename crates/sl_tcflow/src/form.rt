@@ -145,7 +145,7 @@ impl<'d> TcForm<'d> {
         ensures succeeds { vec_len form.old + piece_room ≤ vec_capacity form.old → IsOk result }
     {
         let place = self.place;
-        let packet = match packet_at(self.delivered, place) {
+        let packet = match placed_packet(self.delivered, place) {
             Some(packet) => packet,
             None => return Ok(false),
         };
@@ -168,7 +168,7 @@ impl<'d> TcForm<'d> {
 }
 
 // The packet at a place. `None` where no packet is there.
-fn packet_at(delivered: &Delivered, place: Place) -> Option<&[u8]>
+fn placed_packet(delivered: &Delivered, place: Place) -> Option<&[u8]>
     // The packet is the one with the index `framed` in the list of its channel.
     ensures some { IfSome result (λ packet.
         packet.now ≡ slice_index_or (list_at delivered.now place.channel) place.framed []) }

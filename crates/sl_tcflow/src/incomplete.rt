@@ -96,7 +96,7 @@ impl Incomplete {
     {
         match segment.flags {
             CONTINUING => self.extend(segment.octets),
-            FIRST => self.begin(segment.octets),
+            FIRST => self.begin_series(segment.octets),
             LAST => self.end(segment.octets, segment.channel, sink),
             // `WHOLE`, no segmentation
             _ => {
@@ -115,7 +115,7 @@ impl Incomplete {
     // Begins a series with these octets, which are never too many for one (`if_fits`). Drops the
     // incomplete series before, if there is one.
     #[inline(always)]
-    fn begin(&mut self, octets: &[u8]) -> Result<TcStep, FlowFault>
+    fn begin_series(&mut self, octets: &[u8]) -> Result<TcStep, FlowFault>
         requires { length octets.now ≤ longest_unit }
         ensures state { OnOk result (self.new ≡ if_fits octets.now) }
         ensures step { IfOk result (λ step.

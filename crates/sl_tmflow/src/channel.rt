@@ -89,7 +89,7 @@ impl Channel {
             Err(flow) => return Err(flow),
         };
         self.count = Some(frame.vc_count());
-        let begun = match self.begin(&frame.field(), u16::from(frame.vc()), sink) {
+        let begun = match self.take_starts(&frame.field(), u16::from(frame.vc()), sink) {
             Ok(report) => report,
             Err(flow) => return Err(flow),
         };
@@ -234,7 +234,7 @@ impl Channel {
 
     // Takes the packets that start in a data field: those that lie whole in the field, and the one
     // that is incomplete at its end.
-    fn begin<S: PacketSink>(
+    fn take_starts<S: PacketSink>(
         &mut self,
         field: &TmField,
         vc: u16,
@@ -262,13 +262,13 @@ impl Channel {
             TmField::Packets {
                 first: Some(first),
                 octets,
-            } => self.begin_at(&octets[usize::from(first)..], vc, sink),
+            } => self.take_from(&octets[usize::from(first)..], vc, sink),
             _ => Ok(EMPTY_STEP),
         }
     }
 
-    // As `begin`, where `octets` are those of the data field from its first packet start on.
-    fn begin_at<S: PacketSink>(
+    // As `take_starts`, where `octets` are those of the data field from its first packet start on.
+    fn take_from<S: PacketSink>(
         &mut self,
         octets: &[u8],
         vc: u16,

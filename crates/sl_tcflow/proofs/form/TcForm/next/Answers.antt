@@ -9,7 +9,7 @@ pub returns-in-None-clause-end : goal.returns-in-None-clause-end
 returns-in-None-clause-end c = λ none.
     let f = c.self.inside in
     let last = no_packet f.delivered.now f.place.channel f.place.framed c.self.invariant.place c.in-None.ensures.none in
-    let all = sym c.self.view_is ∙ none_left f.shape f.spacecraft f.starts f.plain f.delivered.now.lists f.place.channel f.place.framed f.place.ns last c.packet_at.ensures.channels in
+    let all = sym c.self.view_is ∙ none_left f.shape f.spacecraft f.starts f.plain f.delivered.now.lists f.place.channel f.place.framed f.place.ns last c.placed_packet.ensures.channels in
     (all, all, refl)
 
 pub returns-in_err-ns-clause-pieces : goal.returns-in_err-ns-clause-pieces

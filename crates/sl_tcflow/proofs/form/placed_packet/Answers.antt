@@ -4,7 +4,7 @@ use Rattle.std.specs.List.{slice_index_or}
 use Rattle.std.specs.Vec.{vec_items}
 use Rattle.sl_packet.specs.Delivered.{IsDeliverable, list_at}
 use Rattle.std.proofs.lemmas.List.Elements.{All-from_recursion}
-use Rattle.sl_tcflow.proofs.form.packet_at.Goals as goal
+use Rattle.sl_tcflow.proofs.form.placed_packet.Goals as goal
 
 pub returns-clause-deliverable : goal.returns-clause-deliverable
 returns-clause-deliverable c =

@@ -36,9 +36,9 @@ one_more_after : (state : ChannelState) (before : List TmView) (last next : TmVi
     → packets_ending (before ++ last ∷ []) next ≡ packets_after state next
 one_more_after state before last next seen = grind (arith, ending_next, last_count-push, append-nil)
 
-pub one_more : (state : ChannelState) (channel : List TmView) (next : TmView) → HasSeen state channel → packets_ending channel next ≡ packets_after state next
-one_more state [] next seen = ending_first next ∙ ap (λ c. ended (held_step c state.held next) ++ whole_packets next.field) (sym seen.count)
-one_more state (view ∷ later) next seen =
+pub one_more_frame : (state : ChannelState) (channel : List TmView) (next : TmView) → HasSeen state channel → packets_ending channel next ≡ packets_after state next
+one_more_frame state [] next seen = ending_first next ∙ ap (λ c. ended (held_step c state.held next) ++ whole_packets next.field) (sym seen.count)
+one_more_frame state (view ∷ later) next seen =
     let w = has_last view later in
     ap (λ l. packets_ending l next) w.2 ∙ one_more_after state w.0 w.1 next (subst (HasSeen state) w.2 seen)
 
@@ -123,7 +123,7 @@ seen_at old views states at vc d processed are eight fits same = grind (arith, g
 module _ (old : ExtractorState) (views : List TmView) (next : TmView) (states : List KeptChannel) (at : ℕ) (d : KeptChannel) where
   pub ended_now : HasProcessed old views → states ≡ old.channels → length states ≡ 8 → next.vc ≤ 7 → at ≡ next.vc
       → ended_by views next ≡ packets_after (slice_index_or states at d).state next
-  ended_now processed are eight fits same = grind (arith, common_steps, one_more, seen_at)
+  ended_now processed are eight fits same = grind (arith, common_steps, one_more_frame, seen_at)
 
   -- a step that hands over the packets of the state hands over those that end in the frame
   pub handed_now : {S : Type 0} {taking : S → ℕ → List ℕ → S → Type 0} {failing : S → ℕ → List ℕ → SinkFault → S → Type 0} {failures : S → ℕ}

@@ -72,14 +72,14 @@ no_start_before_last view octets (v ∷ earlier) next second run packet delivere
 
 -- ---- of two deliveries
 
-pub at_start : (data_field : DataField) (first : Option ℕ) (octets : List ℕ) (first' : Option ℕ) (octets' : List ℕ)
+pub same_field : (data_field : DataField) (first : Option ℕ) (octets : List ℕ) (first' : Option ℕ) (octets' : List ℕ)
     → data_field ≡ Packets first octets → data_field ≡ Packets first' octets' → (first' ≡ first) × (octets' ≡ octets)
-at_start data_field first octets first' octets' is is' = let same : Packets first octets ≡ Packets first' octets' = sym is ∙ is' in (cc, cc)
+same_field data_field first octets first' octets' is is' = let same : Packets first octets ≡ Packets first' octets' = sym is ∙ is' in (cc, cc)
 
 -- the start of another packet in the same frame is one of the same data field
 start_in_frame : (channel : List TmView) (d e : Delivery) (is_d : IsDelivery channel d) → IsDelivery channel e → d.frame ≡ e.frame
     → IsStart is_d.octets is_d.first e.start
-start_in_frame channel d e is_d is_e same = grind (arith, common_steps, same_place, from_frame, at_start)
+start_in_frame channel d e is_d is_e same = grind (arith, common_steps, same_place, from_frame, same_field)
 
 in_one_frame : (channel : List TmView) (d e : Delivery)
     → IsDelivery channel d → IsDelivery channel e → d.frame ≡ e.frame → d.start < e.start → d.ending ≤ e.frame

@@ -62,8 +62,8 @@ incomplete_with_next passed last next outcome = grind arith
 frame_incomplete-push : (view : TmView) (later : List TmView) (next : TmView)
     → flat_map (carried_into (last_of view later) next) (frame_incomplete view later) ≡ frame_incomplete view (later ++ next ∷ [])
 frame_incomplete-push view later next =
-    let go_on = carried_into (last_of view later) next in
-    flat_map-pieces (flat_map go_on) refl (flat_map-append go_on)
+    let carry = carried_into (last_of view later) next in
+    flat_map-pieces (flat_map carry) refl (flat_map-append carry)
     (λ start. incomplete_octets (outcome_of view (drop start (packet_data view)) later))
     (λ start. incomplete_octets (outcome_of view (drop start (packet_data view)) (later ++ next ∷ [])))
     (λ start. incomplete_with_next (length later + 1) (last_of view later) next (outcome_of view (drop start (packet_data view)) later)
@@ -75,11 +75,11 @@ pub incomplete_first : (next : TmView) → incomplete_of (next ∷ []) ≡ frame
 incomplete_first next = append-nil (frame_incomplete next [])
 
 -- what holds for the incomplete packets of each frame holds for those of the channel
-module _ (go_on : TmView → List ℕ → List (List ℕ)) (number : ℕ) (of : ℕ → List TmView → List (List ℕ)) (end : List (List ℕ)) (stop : of number [] ≡ end)
+module _ (carry : TmView → List ℕ → List (List ℕ)) (number : ℕ) (of : ℕ → List TmView → List (List ℕ)) (end : List (List ℕ)) (stop : of number [] ≡ end)
     (step : (frame : ℕ) (view : TmView) (later : List TmView) → frame + (length later + 1) ≡ number
-    → of frame (view ∷ later) ≡ flat_map (go_on (last_of view later)) (frame_incomplete view later) ++ of (frame + 1) later) where
+    → of frame (view ∷ later) ≡ flat_map (carry (last_of view later)) (frame_incomplete view later) ++ of (frame + 1) later) where
   pub by_frames : (frame : ℕ) (before : List TmView) (last : TmView) → frame + length (before ++ last ∷ []) ≡ number
-      → of frame (before ++ last ∷ []) ≡ flat_map (go_on last) (incomplete_of (before ++ last ∷ [])) ++ end
+      → of frame (before ++ last ∷ []) ≡ flat_map (carry last) (incomplete_of (before ++ last ∷ [])) ++ end
   by_frames frame [] last counted = grind (arith, incomplete_first)
   by_frames frame (view ∷ before) last counted = grind (arith, last_of-push, append_assoc, flat_map-append, by_frames (frame + 1) before last (omega arith))
 
@@ -131,8 +131,8 @@ at_last_frame frame view = ap (packets_at frame) (append-nil (frame_deliveries f
 -- ---- the packets that were incomplete before the last frame
 
 -- an incomplete packet that ends in the next frame
-abbrev pub ended_in : TmView → TmView → List ℕ → List (List ℕ)
-ended_in last next octets = ended (step_of last octets next)
+abbrev pub ended_by_next : TmView → TmView → List ℕ → List (List ℕ)
+ended_by_next last next octets = ended (step_of last octets next)
 
 step_ending : (number frame start : ℕ) (s : Continuation) (passed : ℕ) (octets : List ℕ) → frame + passed ≡ number
     → packets_at number (delivery_of frame start (after_step s passed (StillIncomplete octets))) ≡ ended s ++ []
@@ -141,7 +141,7 @@ step_ending number frame start s passed octets here = grind (arith, eq-eqb)
 -- a packet that ended earlier doesn't end in the next frame
 ending_with_next : (number frame start : ℕ) (last next : TmView) (passed : ℕ) (outcome : Outcome)
     → frame + passed ≡ number → ((packet : List ℕ) (n : ℕ) → outcome ≡ Completes packet n → n + 1 ≤ passed)
-    → packets_at number (delivery_of frame start (with_next passed last next outcome)) ≡ flat_map (ended_in last next) (incomplete_octets outcome)
+    → packets_at number (delivery_of frame start (with_next passed last next outcome)) ≡ flat_map (ended_by_next last next) (incomplete_octets outcome)
 ending_with_next number frame start last next passed outcome here earlier = grind (arith, step_ending, ne_eqb)
 
 ends_before : (view : TmView) (octets : List ℕ) (later : List TmView) (packet : List ℕ) (n : ℕ)
@@ -150,17 +150,17 @@ ends_before view octets later packet n completes =
     let w = outcome_delivered view octets later packet n completes in omega (arith, w.passed_is, ap length w.in_order, length-append w.run w.after)
 
 pub frame_ending-push : (number frame : ℕ) (view : TmView) (later : List TmView) (next : TmView) → frame + (length later + 1) ≡ number
-    → packets_at number (frame_deliveries frame view (later ++ next ∷ [])) ≡ flat_map (ended_in (last_of view later) next) (frame_incomplete view later)
+    → packets_at number (frame_deliveries frame view (later ++ next ∷ [])) ≡ flat_map (ended_by_next (last_of view later) next) (frame_incomplete view later)
 frame_ending-push number frame view later next here =
     let last = last_of view later in
     let octets = λ (start : ℕ). drop start (packet_data view) in
-    let ends = λ (start : ℕ). flat_map (ended_in last next) (incomplete_octets (outcome_of view (octets start) later)) in
+    let ends = λ (start : ℕ). flat_map (ended_by_next last next) (incomplete_octets (outcome_of view (octets start) later)) in
     flat_map-pieces (packets_at number) refl (packets_at-append number)
     (λ start. delivery_of frame start (outcome_of view (octets start) (later ++ next ∷ []))) ends
     (λ start. ap (λ o. packets_at number (delivery_of frame start o)) (outcome_of-push view (octets start) later next)
     ∙ ending_with_next number frame start last next (length later + 1) (outcome_of view (octets start) later) here (ends_before view (octets start) later))
     (starts_of view.field)
-    ∙ sym (flat_map-pieces (flat_map (ended_in last next)) refl (flat_map-append (ended_in last next))
+    ∙ sym (flat_map-pieces (flat_map (ended_by_next last next)) refl (flat_map-append (ended_by_next last next))
     (λ start. incomplete_octets (outcome_of view (octets start) later)) ends (λ start. refl) (starts_of view.field))
 
 -- in the first frame of a channel, the packets that lie whole in it end
@@ -169,10 +169,10 @@ ending_first next = at_last_frame 0 next
 
 -- in each other frame, the incomplete packet that ends there ends too
 pub ending_next : (before : List TmView) (last next : TmView)
-    → packets_ending (before ++ last ∷ []) next ≡ flat_map (ended_in last next) (incomplete_of (before ++ last ∷ [])) ++ whole_packets next.field
+    → packets_ending (before ++ last ∷ []) next ≡ flat_map (ended_by_next last next) (incomplete_of (before ++ last ∷ [])) ++ whole_packets next.field
 ending_next before last next =
     let number : ℕ = length (before ++ last ∷ []) in
     let from = λ (frame : ℕ) (later : List TmView). deliveries_from frame (later ++ next ∷ []) in
-    by_frames (λ view. ended_in view next) number (λ frame channel. packets_at number (from frame channel)) (whole_packets next.field) (at_last_frame number next)
+    by_frames (λ view. ended_by_next view next) number (λ frame channel. packets_at number (from frame channel)) (whole_packets next.field) (at_last_frame number next)
     (λ frame view later counted. packets_at-append number (frame_deliveries frame view (later ++ next ∷ [])) (from (frame + 1) later)
     ∙ ap (λ l. l ++ packets_at number (from (frame + 1) later)) (frame_ending-push number frame view later next counted)) 0 before last (omega arith)

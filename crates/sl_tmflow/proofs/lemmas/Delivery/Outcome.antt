@@ -21,14 +21,14 @@ use Rattle.sl_tmflow.proofs.lemmas.Incomplete.After.{IsIncompleteAfter, reassemb
 shorter_than_packet : (octets more packet rest : List ℕ) → IsPacket packet → octets ++ more ≡ packet ++ rest → front_of octets ≡ Incomplete → length octets < length packet
 shorter_than_packet octets more packet rest is_packet same incomplete = grind (arith, cases_lt, incomplete_is_no_packet, prefix_of_first)
 
-same_packets : (a b : Option ℕ) (xs ys : List ℕ) → Packets a xs ≡ Packets b ys → (a ≡ b) × (xs ≡ ys)
-same_packets a b xs ys same = (cc, cc)
+same_content : (a b : Option ℕ) (xs ys : List ℕ) → Packets a xs ≡ Packets b ys → (a ≡ b) × (xs ≡ ys)
+same_content a b xs ys same = (cc, cc)
 
 -- the pointer in the last frame
 agreed_last : (octets : List ℕ) (next : TmView) (packet : List ℕ) (start : List ℕ) (run earlier : List TmView) (first : Option ℕ) (field : List ℕ)
     → EndsIn octets next.field packet → octets ≡ reassembly start run → run ≡ earlier → next.field ≡ Packets first field
     → first ≡ agreeing_pointer (length packet) (length (reassembly start earlier)) field
-agreed_last octets next packet start run earlier first field ending came same is = grind (arith, same_packets)
+agreed_last octets next packet start run earlier first field ending came same is = grind (arith, same_content)
 
 -- the pointer in an earlier frame
 agreed_earlier : (packet start : List ℕ) (run earlier : List TmView) (next : TmView) (later : List TmView) (first : Option ℕ) (field : List ℕ)

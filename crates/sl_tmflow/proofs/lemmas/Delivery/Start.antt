@@ -26,9 +26,9 @@ drop_end field pointer start before after parts here =
     ap (λ n. drop n field) here ∙ sym (drop-drop (length (concat before)) pointer field)
     ∙ ap (drop (length (concat before))) parts ∙ drop_at (concat before) after (length (concat before)) refl
 
-starts_here : (field : List ℕ) (pointer start : ℕ) (before : List (List ℕ)) (after : List ℕ) → AllByRecursion IsPacket before
+is_start_here : (field : List ℕ) (pointer start : ℕ) (before : List (List ℕ)) (after : List ℕ) → AllByRecursion IsPacket before
     → drop pointer field ≡ concat before ++ after → start ≡ pointer + length (concat before) → 0 < length after → IsStart field (Some pointer) start
-starts_here field pointer start before after packets parts here some =
+is_start_here field pointer start before after packets parts here some =
     let long : length field - pointer ≡ length (concat before) + length after =
     sym (length-drop pointer field) ∙ ap length parts ∙ length-append (concat before) after in
     record {
@@ -46,7 +46,7 @@ offsets_are_starts : (field : List ℕ) (pointer offset : ℕ) (before packets :
     → AllByRecursion (IsStart field (Some pointer)) (packet_offsets offset packets rest)
 offsets_are_starts field pointer offset before [] [] done each parts here = tt
 offsets_are_starts field pointer offset before [] (octet ∷ rest) done each parts here =
-    (starts_here field pointer offset before (octet ∷ rest) done parts here (omega arith), tt)
+    (is_start_here field pointer offset before (octet ∷ rest) done parts here (omega arith), tt)
 offsets_are_starts field pointer offset before (packet ∷ packets) rest done each parts here =
     let least = packet_least packet each.0 in
     let nested : (packet ++ concat packets) ++ rest ≡ packet ++ (concat packets ++ rest) = append_assoc packet (concat packets) rest in
@@ -58,7 +58,7 @@ offsets_are_starts field pointer offset before (packet ∷ packets) rest done ea
     ∙ ap (λ octets. octets ++ (concat packets ++ rest)) (sym one_more) in
     let here' : offset + length packet ≡ pointer + length (concat (before ++ packet ∷ [])) =
     omega (arith, ap length one_more, length-append (concat before) packet) in (
-      starts_here field pointer offset before ((packet ++ concat packets) ++ rest) done parts here some,
+      is_start_here field pointer offset before ((packet ++ concat packets) ++ rest) done parts here some,
       offsets_are_starts field pointer (offset + length packet) (before ++ packet ∷ []) packets rest
           (each-append IsPacket before (packet ∷ []) done (each.0, tt)) each.1 parts' here',
     )

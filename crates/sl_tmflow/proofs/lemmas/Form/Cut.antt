@@ -34,16 +34,16 @@ module _ (room : ℕ) (packets : List (List ℕ)) where
   field_is number before todo count cut = ap (take room) cut.octets
 
   -- the place of the next data field
-  next_field : (number : ℕ) → number * room + room ≡ (number + 1) * room
-  next_field number = let e = add-mul number 1 room in let one = one-mul room in omega arith
+  next_field_begins : (number : ℕ) → number * room + room ≡ (number + 1) * room
+  next_field_begins number = let e = add-mul number 1 room in let one = one-mul room in omega arith
 
   past_field : (number : ℕ) → drop ((number + 1) * room) (concat packets) ≡ drop room (drop (number * room) (concat packets))
-  past_field number = ap (λ n. drop n (concat packets)) (sym (next_field number)) ∙ sym (drop-drop room (number * room) (concat packets))
+  past_field number = ap (λ n. drop n (concat packets)) (sym (next_field_begins number)) ∙ sym (drop-drop room (number * room) (concat packets))
 
   -- past a data field that an earlier packet covers to its end
   pub past_covered : (number : ℕ) (before : List ℕ) (todo : List (List ℕ)) (count : ℕ) → room ≤ length before → IsCut number before todo (suc count)
       → IsCut (number + 1) (drop room before) todo count
-  past_covered number before todo count covered cut = grind (arith, next_field, length-drop, past_field, drop-append-le, suc-mul)
+  past_covered number before todo count covered cut = grind (arith, next_field_begins, length-drop, past_field, drop-append-le, suc-mul)
 
   -- In the data field with this number, `gap` octets are left, from the front of these packets on, and `count` data
   -- fields come later.
@@ -89,9 +89,9 @@ module _ (room : ℕ) (packets : List (List ℕ)) where
 
   -- to the next data field, where the packets fill this one
   pub past_filled : (number : ℕ) (todo : List (List ℕ)) (count : ℕ) → IsInside number 0 todo count → IsCut (number + 1) [] todo count
-  past_filled number todo count is_inside = grind (arith, next_field)
+  past_filled number todo count is_inside = grind (arith, next_field_begins)
 
   -- to the next data field, where a packet goes on in it
   pub past_begun : (number gap : ℕ) (packet : List ℕ) (todo : List (List ℕ)) (count : ℕ) → 0 < gap → gap ≤ length packet → IsInside number gap (packet ∷ todo) count
       → IsCut (number + 1) (drop gap packet) todo count
-  past_begun number gap packet todo count some more is_inside = grind (arith, next_field, length-drop, skip_packet, lies_elsewhere, drop-append-le, length-append)
+  past_begun number gap packet todo count some more is_inside = grind (arith, next_field_begins, length-drop, skip_packet, lies_elsewhere, drop-append-le, length-append)

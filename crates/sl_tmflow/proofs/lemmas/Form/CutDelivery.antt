@@ -20,7 +20,7 @@ use Rattle.sl_tmflow.specs.PacketStart.{packet_offsets}
 use Rattle.sl_tmflow.proofs.lemmas.Delivery.Start.{at_rest}
 use Rattle.sl_tmflow.proofs.lemmas.Form.Cut.{pointer_at, IsCut, IsInside, first_cut, pointer_is, field_is, past_covered, at_first_start, past_whole, past_filled, past_begun}
 use Rattle.sl_tmflow.proofs.lemmas.Delivery.Listed.{field_deliveries}
-use Rattle.sl_tmflow.proofs.lemmas.Delivery.Push.{completed, from_pointer}
+use Rattle.sl_tmflow.proofs.lemmas.Delivery.Push.{completed_packet, from_pointer}
 use Rattle.sl_tmflow.proofs.lemmas.Delivery.Step.{EndsIn, GoesOnPast, ends_step, continues_step, incomplete_before_end}
 
 -- ---- a packet that goes on
@@ -38,13 +38,13 @@ next_count number = let next : (number + 1) % 256 ≡ (number % 256 + 1) % 256 =
 
 -- the packets that octets of a frame deliver, from a packet start on
 abbrev pub delivered_in : TmView → List TmView → List ℕ → List (List ℕ)
-delivered_in view later octets = packets_of octets ++ at_rest (λ l. completed (outcome_of view l later)) (rest_of octets)
+delivered_in view later octets = packets_of octets ++ at_rest (λ l. completed_packet (outcome_of view l later)) (rest_of octets)
 
 in_packet : (view : TmView) (later : List TmView) (packet octets : List ℕ) → IsPacket packet → delivered_in view later (packet ++ octets) ≡ packet ∷ delivered_in view later octets
 in_packet view later packet octets is_packet = grind (arith, packets_of-packet, rest_of-packet)
 
 in_begun : (view : TmView) (later : List TmView) (octets : List ℕ) → 0 < length octets → front_of octets ≡ Incomplete
-    → delivered_in view later octets ≡ completed (outcome_of_front Incomplete view octets later)
+    → delivered_in view later octets ≡ completed_packet (outcome_of_front Incomplete view octets later)
 in_begun view later octets some incomplete = grind (arith, packets_of-none, rest_of-none)
 
 -- a list of packets without octets is empty
@@ -109,7 +109,7 @@ module _ (room vc mc : ℕ) (packets : List (List ℕ)) where
   -- a packet is delivered of which these octets came, and the others come in the data fields from this number on
   pub put_together : (count number passed : ℕ) (view : TmView) (so_far more : List ℕ) (todo : List (List ℕ)) → 0 < room → follows view.vc_count (number % 256) ≡ true
       → IsPacket (so_far ++ more) → 0 < length more → IsCut room packets number more todo count
-      → completed (outcome_after passed view so_far (views_from number count)) ≡ (so_far ++ more) ∷ []
+      → completed_packet (outcome_after passed view so_far (views_from number count)) ≡ (so_far ++ more) ∷ []
   put_together zero number passed view so_far more todo some next is_packet there cut = absurd (let size = cut.size in let none = zero-mul room in omega arith)
   put_together (suc count) number passed view so_far more todo some next is_packet there cut =
       let here = view_at number in
@@ -122,13 +122,13 @@ module _ (room vc mc : ℕ) (packets : List (List ℕ)) where
             let parts : (so_far ++ take room more) ++ drop room more ≡ so_far ++ more =
             append_assoc so_far (take room more) (drop room more) ∙ ap (λ l. so_far ++ l) (take-append-drop room more) in
             let rest : 0 < length (drop room more) = omega (arith, length-drop room more, long) in
-            ap (λ c. completed (after_step c (passed + 1) later)) (continues_step view so_far here next (goes_on_here number so_far more todo count some is_packet long cut))
-            ∙ ap (λ l. completed (outcome_after (passed + 1) here (so_far ++ l) (views_from (number + 1) count))) all_is
+            ap (λ c. completed_packet (after_step c (passed + 1) later)) (continues_step view so_far here next (goes_on_here number so_far more todo count some is_packet long cut))
+            ∙ ap (λ l. completed_packet (outcome_after (passed + 1) here (so_far ++ l) (views_from (number + 1) count))) all_is
             ∙ put_together count (number + 1) (passed + 1) here (so_far ++ take room more) (drop room more) todo some (next_count number)
             (subst IsPacket (sym parts) is_packet) rest (past_covered room packets number more todo count covered cut)
             ∙ ap (λ l. l ∷ []) parts
         | inr (test, short) ↦
-            ap (λ c. completed (after_step c (passed + 1) later))
+            ap (λ c. completed_packet (after_step c (passed + 1) later))
             (ends_step view so_far here (so_far ++ more) next (ends_here number so_far more todo count some is_packet (omega (arith, short)) cut))
       ]
 

@@ -101,8 +101,8 @@ of_none : (vc : ℕ) (views : List TmView) → AllByRecursion (λ view. view.vc 
 of_none vc views others = grind (arith, filter_none, each-weaker, ne_eqb)
 
 module _ (format : TmFormat) (spacecraft : ℕ) (is : IsFormat format) (fits : spacecraft ≤ 1023) where
-  abbrev pub form_views : ℕ → ℕ → List (List (List ℕ)) → List TmView
-  form_views vc mc lists = views_of format spacecraft (frames_from_channel format spacecraft vc mc lists)
+  abbrev pub views_from_vc : ℕ → ℕ → List (List (List ℕ)) → List TmView
+  views_from_vc vc mc lists = views_of format spacecraft (frames_from_channel format spacecraft vc mc lists)
 
   -- the number of frames up to the next virtual channel
   abbrev pub next : ℕ → ℕ → List (List ℕ) → ℕ
@@ -119,16 +119,16 @@ module _ (format : TmFormat) (spacecraft : ℕ) (is : IsFormat format) (fits : s
 
   -- the frames of the first virtual channel as they are read, and of the others
   pub form_parts : (packets : List (List ℕ)) (lists : List (List (List ℕ))) (vc mc : ℕ) → vc ≤ 7 → AllByRecursion IsDeliverable packets
-      → form_views vc mc (packets ∷ lists)
-      ≡ channel_views format vc mc packets ++ form_views (vc + 1) (mc + length (channel_frames format spacecraft vc mc packets)) lists
+      → views_from_vc vc mc (packets ∷ lists)
+      ≡ channel_views format vc mc packets ++ views_from_vc (vc + 1) (mc + length (channel_frames format spacecraft vc mc packets)) lists
   form_parts packets lists vc mc inside each = grind (arith, filter_map-append, channel_back)
 
   pub form_above : (lists : List (List (List ℕ))) (vc mc : ℕ) → vc + length lists ≤ 8 → AllByRecursion (AllByRecursion IsDeliverable) lists
-      → AllByRecursion (λ view. vc ≤ view.vc) (form_views vc mc lists)
+      → AllByRecursion (λ view. vc ≤ view.vc) (views_from_vc vc mc lists)
   form_above [] vc mc inside each = tt
   form_above (packets ∷ lists) vc mc inside each =
       let own = channel_views format vc mc packets in
-      let rest = form_views (vc + 1) (next vc mc packets) lists in
+      let rest = views_from_vc (vc + 1) (next vc mc packets) lists in
       subst (AllByRecursion (λ view. vc ≤ view.vc)) (sym (form_parts packets lists vc mc (omega (arith, inside)) each.0))
       (each-append (λ view. vc ≤ view.vc) own rest
       (each-weaker (λ view. view.vc ≡ vc) (λ view. vc ≤ view.vc) (λ view same. omega arith) own (channel_of_own format vc mc packets))
@@ -136,16 +136,16 @@ module _ (format : TmFormat) (spacecraft : ℕ) (is : IsFormat format) (fits : s
 
   -- the frames of the first virtual channel, and those of another one
   pub first_channel : (packets : List (List ℕ)) (lists : List (List (List ℕ))) (vc mc : ℕ) → vc + 1 + length lists ≤ 8 → AllByRecursion IsDeliverable packets
-      → AllByRecursion (AllByRecursion IsDeliverable) lists → views_on vc (form_views vc mc (packets ∷ lists)) ≡ channel_views format vc mc packets
+      → AllByRecursion (AllByRecursion IsDeliverable) lists → views_on vc (views_from_vc vc mc (packets ∷ lists)) ≡ channel_views format vc mc packets
   first_channel packets lists vc mc inside own each = grind (arith, form_parts, filter-append, channel_of_own, of_none, each-weaker, form_above, append-nil, filter_all, eq-eqb)
 
   pub other_channel : (packets : List (List ℕ)) (lists : List (List (List ℕ))) (vc mc v : ℕ) → vc ≤ 7 → AllByRecursion IsDeliverable packets → vc ≢ v
-      → views_on v (form_views vc mc (packets ∷ lists)) ≡ views_on v (form_views (vc + 1) (next vc mc packets) lists)
+      → views_on v (views_from_vc vc mc (packets ∷ lists)) ≡ views_on v (views_from_vc (vc + 1) (next vc mc packets) lists)
   other_channel packets lists vc mc v inside own other = grind (arith, form_parts, filter-append, of_none, each-weaker, channel_of_own)
 
   -- the frames of a virtual channel are those that its packets are divided into
   pub own_channel : (lists : List (List (List ℕ))) (vc mc v index : ℕ) → vc + length lists ≤ 8 → AllByRecursion (AllByRecursion IsDeliverable) lists → v ≡ vc + index → index < length lists
-      → (before : ℕ) × (views_on v (form_views vc mc lists) ≡ channel_views format v before (slice_index_or lists index []))
+      → (before : ℕ) × (views_on v (views_from_vc vc mc lists) ≡ channel_views format v before (slice_index_or lists index []))
   own_channel [] vc mc v index inside each at below = absurd (omega arith)
   own_channel (packets ∷ lists) vc mc v zero inside each at below =
       let same : v ≡ vc = omega (arith, at) in
@@ -179,7 +179,7 @@ pub delivers : NormalFormDelivers
 delivers format spacecraft lists is fits due =
     let eight = due.eight in
     let packets_on = λ (views : List TmView) (vc : ℕ). without_idle (packets_of_channel views vc) in
-    let views = form_views format spacecraft is fits 0 0 lists in
+    let views = views_from_vc format spacecraft is fits 0 0 lists in
     ap (λ views. map (packets_on views) virtual_channels) (views_are format spacecraft lists is fits due)
     ∙ ext_get_or [] (map (packets_on views) virtual_channels) lists (sym eight)
     (λ vc below.

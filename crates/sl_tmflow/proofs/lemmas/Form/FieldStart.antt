@@ -60,15 +60,15 @@ none_before offset (packet ∷ packets) start (inl same) = omega arith
 none_before offset (packet ∷ packets) start (inr among) = omega (arith, none_before (offset + length packet) packets start among)
 
 -- an offset in front that doesn't lie in the data field changes nothing
-one_more : (room number offset : ℕ) (offsets : List ℕ) (first : Option ℕ) → (LiesIn room number offset → ⊥)
+one_start_more : (room number offset : ℕ) (offsets : List ℕ) (first : Option ℕ) → (LiesIn room number offset → ⊥)
     → IsLeastStart room number offsets first → IsLeastStart room number (offset ∷ offsets) first
-one_more room number offset offsets first outside least = search arith
+one_start_more room number offset offsets first outside least = search arith
 
 -- one more packet in front of packets that lie end to end
 with_first : (room number offset : ℕ) (packet : List ℕ) (packets : List (List ℕ)) → 0 < room → (b : Bool) → lies_in room number offset ≡ b
     → IsLeastStart room number (packet_offsets (offset + length packet) packets []) (first_of room number (packet_offsets (offset + length packet) packets []))
     → IsLeastStart room number (packet_offsets offset (packet ∷ packets) []) (first_of room number (packet_offsets offset (packet ∷ packets) []))
-with_first room number offset packet packets some b test later = grind (arith, none_before, one_more, tells, eqb-true, div-add-mod', mod_below)
+with_first room number offset packet packets some b test later = grind (arith, none_before, one_start_more, tells, eqb-true, div-add-mod', mod_below)
 
 least_from : (room number offset : ℕ) (packets : List (List ℕ)) → 0 < room
     → IsLeastStart room number (packet_offsets offset packets []) (first_of room number (packet_offsets offset packets []))

@@ -119,8 +119,8 @@ module _ (format : TmFormat) (spacecraft vc before : ℕ) (packets : List (List 
       (size, same_filling room (length (concat packets)) (length octets) (ap (λ n. n % room) size ∙ mul-add-mod_self_right count room (length octets)))
 
   -- then no frames are left where no octets are kept,
-  none_kept : (count many start : ℕ) → IsPending room filled count start [] last → count + many ≡ length (concat filled) / room → many ≡ 0
-  none_kept count many start p total =
+  none_kept_at_end : (count many start : ℕ) → IsPending room filled count start [] last → count + many ≡ length (concat filled) / room → many ≡ 0
+  none_kept_at_end count many start p total =
       let (size, is) = at_end count start [] p in
       let none = ap (λ (l : List (List ℕ)). length (concat l)) (is ∙ no_filling room) in
       let rooms : length (concat filled) ≡ count * room + 0 = omega (arith, ap length (filled_octets room packets), length-append (concat packets) (concat last), size, none) in
@@ -167,7 +167,7 @@ module _ (format : TmFormat) (spacecraft vc before : ℕ) (packets : List (List 
       ∙ ap₂ (λ f k. f ++ others (heading k)) (sym split) end
   still_to_come [] count many start [] others few p total =
       let same : count ≡ count + 0 = omega arith in
-      ap (λ k. others (heading k)) same ∙ ap (λ n. frames count n ++ others (heading (count + n))) (sym (none_kept count many start p total))
+      ap (λ k. others (heading k)) same ∙ ap (λ n. frames count n ++ others (heading (count + n))) (sym (none_kept_at_end count many start p total))
   still_to_come [] count many start (octet ∷ octets) others few p total =
       let all = filled_up format (octet ∷ octets) in
       let (these, is) = some_kept count many start (octet ∷ octets) (omega arith) few p total in

@@ -18,7 +18,7 @@ use Rattle.sl_tmflow.specs.VirtualChannel.{views_on, packet_data}
 use Rattle.sl_tmflow.specs.FormOrder.{CarriesPackets, ChannelsNeverFall, EachCarriesPackets, McCounts, PacketsLieEndToEnd, VcCounts}
 use Rattle.sl_tmflow.specs.NormalForm.{channel_frames, data_field_of, first_of, with_filling}
 use Rattle.sl_tmflow.specs.PacketStart.{packet_offsets}
-use Rattle.sl_tmflow.proofs.lemmas.Form.Delivery.{channel_of_own, channel_views, filled_size, first_channel, form_parts, form_views, next, other_channel, own_channel, views_are}
+use Rattle.sl_tmflow.proofs.lemmas.Form.Delivery.{channel_of_own, channel_views, filled_size, first_channel, form_parts, views_from_vc, next, other_channel, own_channel, views_are}
 use Rattle.sl_tmflow.proofs.lemmas.Form.CutDelivery.{view_at}
 
 -- ---- numbers that count
@@ -116,7 +116,7 @@ module _ (format : TmFormat) (vc mc : ℕ) (packets : List (List ℕ)) where
 
 module _ (format : TmFormat) (spacecraft : ℕ) (is : IsFormat format) (fits : spacecraft ≤ 1023) where
   abbrev views_by : ℕ → ℕ → List (List (List ℕ)) → List TmView
-  views_by vc mc lists = form_views format spacecraft is fits vc mc lists
+  views_by vc mc lists = views_from_vc format spacecraft is fits vc mc lists
 
   all_carry : (lists : List (List (List ℕ))) (vc mc : ℕ) → vc + length lists ≤ 8 → AllByRecursion (AllByRecursion IsDeliverable) lists
       → AllByRecursion CarriesPackets (views_by vc mc lists)
@@ -153,14 +153,14 @@ channels_never_fall format spacecraft lists is fits due =
 pub mc_counts : McCounts
 mc_counts format spacecraft lists is fits due before later view at =
     let index : 0 + length before ≡ length before = omega arith in
-    count_at (λ (view : TmView). view.mc_count) 0 (form_views format spacecraft is fits 0 0 lists) before later view
+    count_at (λ (view : TmView). view.mc_count) 0 (views_from_vc format spacecraft is fits 0 0 lists) before later view
     (all_master format spacecraft is fits lists 0 0 (let eight = due.eight in omega arith) due.each) (sym (views_are format spacecraft lists is fits due) ∙ at)
     ∙ ap (λ n. n % 256) index
 
 pub vc_counts : VcCounts
 vc_counts format spacecraft lists is fits due vc before later view at =
     let index : 0 + length before ≡ length before = omega arith in
-    count_at (λ (view : TmView). view.vc_count) 0 (views_on vc (form_views format spacecraft is fits 0 0 lists)) before later view
+    count_at (λ (view : TmView). view.vc_count) 0 (views_on vc (views_from_vc format spacecraft is fits 0 0 lists)) before later view
     (all_count format spacecraft is fits lists 0 0 vc (let eight = due.eight in omega arith) due.each)
     (ap (views_on vc) (sym (views_are format spacecraft lists is fits due)) ∙ at)
     ∙ ap (λ n. n % 256) index

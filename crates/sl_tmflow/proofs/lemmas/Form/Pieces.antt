@@ -37,22 +37,22 @@ module _ (format : TmFormat) (spacecraft vc before : ℕ) (packets : List (List 
   abbrev room : ℕ
   room = field_room_of format
 
-  abbrev frame_at : ℕ → List ℕ
-  frame_at = channel_frame format spacecraft vc before packets
+  abbrev numbered_frame : ℕ → List ℕ
+  numbered_frame = channel_frame format spacecraft vc before packets
 
   abbrev first_at : ℕ → Option ℕ
   first_at number = first_of room number (packet_offsets 0 packets [])
 
   -- the next data field is at the front of the octets after the data fields that were made
-  field_is : (number : ℕ) (made octets more : List ℕ) → concat packets ≡ made ++ (octets ++ more) → length made ≡ number * room → room ≤ length octets
+  field_is_next : (number : ℕ) (made octets more : List ℕ) → concat packets ≡ made ++ (octets ++ more) → length made ≡ number * room → room ≤ length octets
       → take room octets ≡ data_field_of room number (concat packets)
-  field_is number made octets more parts size enough = grind (arith, drop-append_seam, take-append-le)
+  field_is_next number made octets more parts size enough = grind (arith, drop-append_seam, take-append-le)
 
   pub fields_are : (many number : ℕ) (first : Option ℕ) (made octets more : List ℕ)
       → concat packets ≡ made ++ (octets ++ more) → length made ≡ number * room → many * room ≤ length octets
       → (0 < many → first_at number ≡ first)
       → ((j : ℕ) → number < j → j < number + many → first_at j ≡ None)
-      → field_frames format many (numbered spacecraft vc before number) first octets ≡ concat (map frame_at (range_with_len number many))
+      → field_frames format many (numbered spacecraft vc before number) first octets ≡ concat (map numbered_frame (range_with_len number many))
   fields_are zero number first made octets more parts size enough here later = refl
   fields_are (suc many) number first made octets more parts size enough here later =
       let rooms = suc-mul many room in
@@ -63,9 +63,9 @@ module _ (format : TmFormat) (spacecraft vc before : ℕ) (packets : List (List 
       let halves : octets ++ more ≡ take room octets ++ (drop room octets ++ more) =
       ap (λ l. l ++ more) (sym (take-append-drop room octets)) ∙ append_assoc (take room octets) (drop room octets) more in
       ap (λ f. f ++ field_frames format many (heading_after (numbered spacecraft vc before number) 1) None (drop room octets))
-      (ap₂ (packet_frame format spacecraft vc ((before + number) % 256) (number % 256)) (sym (here (omega arith))) (field_is number made octets more parts size fits))
-      ∙ ap (λ h. frame_at number ++ field_frames format many h None (drop room octets)) (numbered_later spacecraft vc before number 1)
-      ∙ ap (λ l. frame_at number ++ l)
+      (ap₂ (packet_frame format spacecraft vc ((before + number) % 256) (number % 256)) (sym (here (omega arith))) (field_is_next number made octets more parts size fits))
+      ∙ ap (λ h. numbered_frame number ++ field_frames format many h None (drop room octets)) (numbered_later spacecraft vc before number 1)
+      ∙ ap (λ l. numbered_frame number ++ l)
       (fields_are many (number + 1) None (made ++ take room octets) (drop room octets) more
       (parts ∙ ap (λ l. made ++ l) halves ∙ sym (append_assoc made (take room octets) (drop room octets ++ more)))
       (omega (arith, length-append made (take room octets), size, front, one, once, fits))

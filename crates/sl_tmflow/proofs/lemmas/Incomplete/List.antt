@@ -90,8 +90,8 @@ begun_version : (octets : List ℕ) → front_of octets ≡ Incomplete → 1 ≤
 begun_version octets incomplete some = grind (arith, incomplete_may_become_whole, version_of-append)
 
 -- octets of version 0 begin a packet where no packet is whole
-begins : (octets : List ℕ) → version_of octets ≡ 0 → ((packet : List ℕ) → IsPacket packet → IsPrefix packet octets → ⊥) → front_of octets ≡ Incomplete
-begins octets version none = cases (front_of octets) refl
+begins_packet : (octets : List ℕ) → version_of octets ≡ 0 → ((packet : List ℕ) → IsPacket packet → IsPrefix packet octets → ⊥) → front_of octets ≡ Incomplete
+begins_packet octets version none = cases (front_of octets) refl
   where
     cases : (f : Front) → front_of octets ≡ f → f ≡ Incomplete
     cases OtherVersion is =
@@ -157,7 +157,7 @@ incomplete_start_outcome channel octets is_incomplete =
       consecutive = is_incomplete.consecutive;
       none_opaque = is_incomplete.none_opaque;
       no_start = is_incomplete.no_start;
-      incomplete = begins octets is_incomplete.version is_incomplete.no_packet;
+      incomplete = begins_packet octets is_incomplete.version is_incomplete.no_packet;
     }
 
 pub each_incomplete_is_listed : EachIncompleteIsListed
@@ -177,7 +177,7 @@ pub stated_packet_len-most : (octets : List ℕ) → stated_packet_len octets �
 stated_packet_len-most octets = omega arith
 
 pub incomplete_is_short : IncompleteIsShort
-incomplete_is_short channel = grind (arith, common_steps, each-weaker, length-append, length-drop, fewer_than_stated, begins, stated_packet_len-most, each_listed_is_incomplete)
+incomplete_is_short channel = grind (arith, common_steps, each-weaker, length-append, length-drop, fewer_than_stated, begins_packet, stated_packet_len-most, each_listed_is_incomplete)
 
 -- ---- how many octets incomplete packets have
 

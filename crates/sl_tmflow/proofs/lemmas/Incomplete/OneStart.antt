@@ -11,7 +11,7 @@ use Rattle.sl_tmflow.specs.PacketStart.{IsStart}
 use Rattle.sl_tmflow.proofs.lemmas.Incomplete.List.{incomplete_start_outcome}
 use Rattle.sl_fields.proofs.ListLemmas.{each-among}
 use Rattle.sl_tmflow.proofs.lemmas.Places.{same_place}
-use Rattle.sl_tmflow.proofs.lemmas.Delivery.End.{longer_begins, not_last_is_whole, at_start}
+use Rattle.sl_tmflow.proofs.lemmas.Delivery.End.{longer_begins, not_last_is_whole, same_field}
 use Rattle.sl_tmflow.proofs.lemmas.Incomplete.After.{outcome_incomplete}
 use Rattle.sl_tmflow.proofs.lemmas.Delivery.Step.{incomplete_before}
 
@@ -48,7 +48,7 @@ none_later_in_frame channel octets one later is_start less =
 not_before : (channel : List TmView) (octets others : List ℕ) (one : IsIncomplete channel octets) (other : IsIncomplete channel others)
     → one.view ≡ other.view → one.offset < other.offset → ⊥
 not_before channel octets others one other view less =
-    let (first, field) = at_start one.view.field one.first one.field other.first other.field one.carries (ap (λ v. v.field) view ∙ other.carries) in
+    let (first, field) = same_field one.view.field one.first one.field other.first other.field one.carries (ap (λ v. v.field) view ∙ other.carries) in
     none_later_in_frame channel octets one other.offset
     (subst (λ f. IsStart f one.first other.offset) field (subst (λ p. IsStart other.field p other.offset) first other.start)) less
 
@@ -65,7 +65,7 @@ same_start channel octets others one other view =
 
 same_octets : (channel : List TmView) (octets others : List ℕ) (one : IsIncomplete channel octets) (other : IsIncomplete channel others)
     → one.view ≡ other.view → one.run ≡ other.run → one.offset ≡ other.offset → octets ≡ others
-same_octets channel octets others one other view run offset = grind (arith, at_start)
+same_octets channel octets others one other view run offset = grind (arith, same_field)
 
 pub one_start_is_incomplete : OneStartIsIncomplete
 one_start_is_incomplete channel frame start octets other_frame other_start others one_at other_at =

@@ -154,14 +154,14 @@ module _ (numbers : List ℕ) (near : FewAreLost numbers) where
       absurd (not_twice d whole other same (subst (λ x. IsSameDelivery numbers x other) here right) after)
   kept_later d whole deliveries same other after (e, inr there, right) = (e, there, right)
 
-  same_packets : (deliveries all : List Delivery) → AreInOrder deliveries → AreInOrder all → AllByRecursion (IsLeftOf all) deliveries
+  same_packets_kept : (deliveries all : List Delivery) → AreInOrder deliveries → AreInOrder all → AllByRecursion (IsLeftOf all) deliveries
       → AllByRecursion (IsKeptOf deliveries) all → packets_delivered deliveries ≡ packets_delivered all
-  same_packets [] [] order whole_order each each_whole = refl
-  same_packets [] (whole ∷ all) order whole_order each ((d, among, same), each_whole) = absurd among
-  same_packets (d ∷ deliveries) [] order whole_order ((whole, among, same), each) each_whole = absurd among
-  same_packets (d ∷ deliveries) (whole ∷ all) order whole_order each each_whole =
+  same_packets_kept [] [] order whole_order each each_whole = refl
+  same_packets_kept [] (whole ∷ all) order whole_order each ((d, among, same), each_whole) = absurd among
+  same_packets_kept (d ∷ deliveries) [] order whole_order ((whole, among, same), each) each_whole = absurd among
+  same_packets_kept (d ∷ deliveries) (whole ∷ all) order whole_order each each_whole =
       let same = first_same d whole deliveries all order.0 whole_order.0 each.0 each_whole.0 in
-      ap₂ (λ p l. p ∷ l) same.packet (same_packets deliveries all order.1 whole_order.1
+      ap₂ (λ p l. p ∷ l) same.packet (same_packets_kept deliveries all order.1 whole_order.1
       (each-both (StartsBefore d) (IsLeftOf (whole ∷ all)) (IsLeftOf all)
       (left_later d whole all same) deliveries order.0 each.1)
       (each-both (StartsBefore whole) (IsKeptOf (d ∷ deliveries)) (IsKeptOf deliveries) (kept_later d whole deliveries same) all whole_order.0 each_whole.1))
@@ -170,7 +170,7 @@ pub packets_are_kept : PacketsAreKept
 packets_are_kept channel numbers kept left =
     let test = keeps_run numbers in
     let all = deliveries_of channel in
-    same_packets numbers left.few_lost (deliveries_of kept) (filter test all) (are_in_order kept) (in_order-filter test all (are_in_order channel))
+    same_packets_kept numbers left.few_lost (deliveries_of kept) (filter test all) (are_in_order kept) (in_order-filter test all (are_in_order channel))
     (each-weaker (IsDelivery kept) (IsLeftOf numbers left.few_lost (filter test all))
     (λ d x. let (whole, y, same) = none_is_new channel numbers kept d left x in (
       whole,

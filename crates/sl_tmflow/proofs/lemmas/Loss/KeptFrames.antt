@@ -81,9 +81,9 @@ pub kept_at : (channel : List TmView) (numbers : List ℕ) (before : List TmView
 kept_at channel = goes_with (HaveNumbers channel) (HasNumber channel) (λ view kept none. none) (λ number numbers view kept both. both)
 
 -- a number, with the frame of this number
-pub frame_at : (channel : List TmView) (kept : List TmView) (earlier : List ℕ) (number : ℕ) (more : List ℕ) → HaveNumbers channel (earlier ++ number ∷ more) kept
+pub frame_of_number : (channel : List TmView) (kept : List TmView) (earlier : List ℕ) (number : ℕ) (more : List ℕ) → HaveNumbers channel (earlier ++ number ∷ more) kept
     → GoesWith (λ kept numbers. HaveNumbers channel numbers kept) (λ view number. HasNumber channel number view) kept earlier number more
-frame_at channel = goes_with (λ kept numbers. HaveNumbers channel numbers kept) (λ view number. HasNumber channel number view) (λ number numbers none. none) (λ view kept number numbers both. both)
+frame_of_number channel = goes_with (λ kept numbers. HaveNumbers channel numbers kept) (λ view number. HasNumber channel number view) (λ number numbers none. none) (λ view kept number numbers both. both)
 
 -- ---- runs
 

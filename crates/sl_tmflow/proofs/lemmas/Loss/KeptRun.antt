@@ -12,14 +12,14 @@ use Rattle.sl_tmflow.proofs.lemmas.Loss.KeptFrames.{at_least, near_from}
 -- ---- elements and their numbers
 
 module _ {X : Type 0} where
-  pub has_number : (xs : List X) (number : ℕ) → number < length xs → (x : X) × HasNumber xs number x
-  has_number [] number less = absurd (omega arith)
-  has_number (x ∷ xs) zero less = (
+  pub number_is_there : (xs : List X) (number : ℕ) → number < length xs → (x : X) × HasNumber xs number x
+  number_is_there [] number less = absurd (omega arith)
+  number_is_there (x ∷ xs) zero less = (
     x,
     record { before = []; after = xs; in_order = refl; counted = refl },
   )
-  has_number (x ∷ xs) (suc number) less =
-      let (y, at) = has_number xs number (omega arith) in (
+  number_is_there (x ∷ xs) (suc number) less =
+      let (y, at) = number_is_there xs number (omega arith) in (
         y,
         record { before = x ∷ at.before; after = at.after; in_order = ap (λ l. x ∷ l) at.in_order; counted = omega (arith, at.counted) },
       )
@@ -63,7 +63,7 @@ runs_are_kept numbers d whole near same number above below =
     between fewer =
         let index : ℕ = d.frame + (number - whole.frame) in
         let within : index ≤ d.ending = omega (arith, same.none_lost) in
-        let (found, at) = has_number numbers index
+        let (found, at) = number_is_there numbers index
         (omega (arith, same.ending.counted, ap length same.ending.in_order, length-append same.ending.before (whole.ending ∷ same.ending.after))) in
         let low = apart numbers d.frame index whole.frame found near same.frame at (omega arith) in
         let high = apart numbers index d.ending found whole.ending near at same.ending within in

@@ -10,7 +10,7 @@ use Rattle.sl_tmflow.specs.PacketStart.{IsStart}
 use Rattle.sl_tmflow.proofs.lemmas.Delivery.Listed.{delivery_with, from_frame}
 use Rattle.sl_tmflow.proofs.lemmas.Places.{same_place}
 use Rattle.sl_tmflow.proofs.lemmas.Delivery.End.{longer_begins}
-use Rattle.sl_tmflow.proofs.lemmas.Loss.KeptFrames.{at_least, frame_at, kept_at, near_from, no_gap_at, run_is_kept, run_of_whole}
+use Rattle.sl_tmflow.proofs.lemmas.Loss.KeptFrames.{at_least, frame_of_number, kept_at, near_from, no_gap_at, run_is_kept, run_of_whole}
 
 -- a number in the tail of a list has a place in the whole list
 number_later : (numbers earlier : List ℕ) (number : ℕ) (more : List ℕ) (place last : ℕ) → numbers ≡ earlier ++ number ∷ more
@@ -85,7 +85,7 @@ delivered_from_kept : (channel : List TmView) (numbers : List ℕ) (kept : List 
 delivered_from_kept channel numbers kept d whole left is_whole same fewer =
     let at = same.frame in
     let rise : RiseFrom whole.frame at.after = near_from at.before whole.frame at.after (subst FewAreLost at.in_order left.few_lost) in
-    let place = frame_at channel kept at.before whole.frame at.after (subst (λ l. HaveNumbers channel l kept) at.in_order left.frames) in
+    let place = frame_of_number channel kept at.before whole.frame at.after (subst (λ l. HaveNumbers channel l kept) at.in_order left.frames) in
     let all = from_frame channel whole is_whole in
     let there = same_place place.here.before is_whole.before place.this is_whole.view place.here.after (is_whole.run ++ is_whole.after) (sym place.here.in_order ∙ all)
     (omega (arith, place.here.counted, is_whole.frame)) in

@@ -55,7 +55,7 @@ extends (packet ∷ packets) old new channel inside t =
 
 module _ {View : Type 0} (channel_of : View → ℕ) (ended : List View → View → List (List ℕ)) (handed : ℕ → List View → List View → List (List ℕ)) where
   -- each frame hands over the packets that end in it, on its channel
-  pub record HandsOver : Type 0 where
+  pub record HandsEachOver : Type 0 where
     pub none : (channel : ℕ) (views : List View) → handed channel views [] ≡ []
     pub next : (channel : ℕ) (views later : List View) (view : View) → handed channel views (view ∷ later)
         ≡ (if channel_of view == channel then without_idle (ended views view) else []) ++ handed channel (views ++ view ∷ []) later
@@ -77,7 +77,7 @@ module _ {View : Type 0} (channel_of : View → ℕ) (ended : List View → View
           each = λ channel. ap (λ l. list_of l channel ++ handed channel [] all) none ∙ ap (λ l. l ++ handed channel [] all) (list_at-empty_lists channel);
         }
 
-    pub hands_next : HandsOver → (all left later : List View) (view : View) (state state' : State) (old new : PacketLists) → left ≡ view ∷ later → channel_of view < channel_count
+    pub hands_next : HandsEachOver → (all left later : List View) (view : View) (state state' : State) (old new : PacketLists) → left ≡ view ∷ later → channel_of view < channel_count
         → ((views : List View) → has_processed state views → has_processed state' (views ++ view ∷ []))
         → ((views : List View) → has_processed state views → TakesAll AddsPacket old (channel_of view) (without_idle (ended views view)) new)
         → IsHanding all left state old.lists → IsHanding all later state' new.lists
@@ -105,7 +105,7 @@ module _ {View : Type 0} (channel_of : View → ℕ) (ended : List View → View
               ];
         }
 
-    pub all_handed : HandsOver → (all left : List View) (state : State) (lists : List (List (List ℕ))) → left ≡ [] → IsHanding all left state lists
+    pub all_handed : HandsEachOver → (all left : List View) (state : State) (lists : List (List (List ℕ))) → left ≡ [] → IsHanding all left state lists
         → (channel : ℕ) → list_of lists channel ≡ handed channel [] all
     all_handed hands all left state lists none h channel =
         sym (append-nil (list_of lists channel)) ∙ ap (λ l. list_of lists channel ++ l) (sym (hands.none channel h.seen))
@@ -129,7 +129,7 @@ stopped_for_memory old new channel packets Failed stopped = elim stopped [ ]
 abbrev pub IsHandingTm : List TmView → List TmView → tm.ExtractorState → List (List (List ℕ)) → Type 0
 IsHandingTm = IsHanding (λ (view : TmView). view.vc) tm.ended_by tm.handed_over tm.HasProcessed
 
-pub tm_hands_over : HandsOver (λ (view : TmView). view.vc) tm.ended_by tm.handed_over
+pub tm_hands_over : HandsEachOver (λ (view : TmView). view.vc) tm.ended_by tm.handed_over
 tm_hands_over = record { none = λ channel views. refl; next = λ channel views later view. refl }
 
 abbrev pub parameters : ℕ → List ℕ → List ℕ → ReceptionParameters
@@ -139,7 +139,7 @@ module _ (r : ReceptionParameters) where
   abbrev pub IsHandingTc : List TcView → List TcView → tc.ReceiverState → List (List (List ℕ)) → Type 0
   IsHandingTc = IsHanding (tc.unit_channel r) (tc.ended_by r) (tc.handed_over r) (tc.HasProcessed r)
 
-  pub tc_hands_over : HandsOver (tc.unit_channel r) (tc.ended_by r) (tc.handed_over r)
+  pub tc_hands_over : HandsEachOver (tc.unit_channel r) (tc.ended_by r) (tc.handed_over r)
   tc_hands_over = record { none = λ channel views. refl; next = λ channel views later view. refl }
 
   pub unit_channel_inside : (view : TcView) → view.vc ≤ 63 → tc.unit_channel r view < channel_count

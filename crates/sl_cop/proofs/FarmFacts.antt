@@ -140,7 +140,7 @@ abbrev IsReported : ℕ → List FarmEvent → List ℕ → Type 0
 IsReported vc events octets = clcw_word octets ≡ clcw_of vc (state_after 10 (farm_start 0) events)
 
 -- words of the state at the beginning, of both flags, and of the greatest and least fields
-pub record AreWords : Type 0 where
+pub record AreClcws : Type 0 where
   pub start : IsReported 0 [] (0x01 ∷ 0x00 ∷ 0x00 ∷ 0x00 ∷ [])
   pub accepted : IsReported 0 (Ad 0 ∷ []) (0x01 ∷ 0x00 ∷ 0x00 ∷ 0x01 ∷ [])
   pub one_on_channel_5 : IsReported 5 (Ad 0 ∷ []) (0x01 ∷ 0x14 ∷ 0x00 ∷ 0x01 ∷ [])
@@ -154,7 +154,7 @@ pub record AreWords : Type 0 where
   pub four_bypassing : IsReported 0 (Bd ∷ Bd ∷ Bd ∷ Bd ∷ []) (0x01 ∷ 0x00 ∷ 0x00 ∷ 0x00 ∷ [])
   pub last_channel : IsReported 63 (SetVr 255 ∷ []) (0x01 ∷ 0xFC ∷ 0x02 ∷ 0xFF ∷ [])
 
-pub words : AreWords
+pub words : AreClcws
 words = record {
   start = refl;
   accepted = refl;

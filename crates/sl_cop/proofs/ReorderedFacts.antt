@@ -45,7 +45,7 @@ far_are_near = of_each (λ before k. IsNear (accepted_count 10 254 before) k) fa
 
 -- ---- the verdicts on these copies
 
-pub record AreAccepted : Type 0 where
+pub record HaveVerdicts : Type 0 where
   pub shuffled_verdicts : verdicts_of 10 (farm_start 254) (events_at 254 shuffled)
       ≡ Early ∷ Accept ∷ Accept ∷ Late ∷ Early ∷ Accept ∷ Command ∷ Accept ∷ Late ∷ Accept ∷ []
   pub shuffled_indices : accepted_indices 10 254 shuffled ≡ 0 ∷ 1 ∷ 2 ∷ 3 ∷ []
@@ -55,7 +55,7 @@ pub record AreAccepted : Type 0 where
   pub far_indices : accepted_indices 10 254 far ≡ 0 ∷ 1 ∷ []
   pub far_vr : (state_at 10 254 far).vr ≡ 0
 
-pub are_accepted : AreAccepted
+pub are_accepted : HaveVerdicts
 are_accepted = record {
   shuffled_verdicts = refl;
   shuffled_indices = refl;

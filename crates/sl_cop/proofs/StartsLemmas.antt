@@ -25,11 +25,11 @@ changed_are_starts starts vc vr are small = record { count = length-set starts v
 -- ---- several virtual channels
 
 -- an item doesn't name a virtual channel after its own one
-passed : (vc : ℕ) (starts : List ℕ) (item : Item) (items : List Item) → item.vc < vc → over_from vc starts (item ∷ items) ≡ over_from vc starts items
+passed_start : (vc : ℕ) (starts : List ℕ) (item : Item) (items : List Item) → item.vc < vc → over_from vc starts (item ∷ items) ≡ over_from vc starts items
 unfolding over_from
-passed vc [] item items low = refl
-passed vc (own ∷ starts) item items low =
-    rw (ne_eqb vc item.vc (λ e. omega arith)) (ap (λ l. vr_of items vc own ∷ l) (passed (suc vc) starts item items (omega arith)))
+passed_start vc [] item items low = refl
+passed_start vc (own ∷ starts) item items low =
+    rw (ne_eqb vc item.vc (λ e. omega arith)) (ap (λ l. vr_of items vc own ∷ l) (passed_start (suc vc) starts item items (omega arith)))
 
 -- one more item changes the V(R) of one virtual channel
 set_over_from : (first : ℕ) (starts : List ℕ) (item : Item) (items : List Item) (k : ℕ) → item.vc ≡ first + k → k < length starts
@@ -37,7 +37,7 @@ set_over_from : (first : ℕ) (starts : List ℕ) (item : Item) (items : List It
 unfolding over_from
 set_over_from first [] item items k is inside = absurd (omega (arith, inside))
 set_over_from first (own ∷ starts) item items zero is inside =
-    rw (eq-eqb first item.vc (omega arith)) (ap (λ l. item.vr ∷ l) (sym (passed (suc first) starts item items (omega arith))))
+    rw (eq-eqb first item.vc (omega arith)) (ap (λ l. item.vr ∷ l) (sym (passed_start (suc first) starts item items (omega arith))))
 set_over_from first (own ∷ starts) item items (suc k) is inside =
     rw (ne_eqb first item.vc (λ e. omega arith)) (ap (λ l. vr_of items first own ∷ l) (set_over_from (suc first) starts item items k (omega arith) (omega arith)))
 

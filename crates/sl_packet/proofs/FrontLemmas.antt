@@ -100,8 +100,8 @@ still_less octets h =
     ]
 
 -- some more zeros make the octets a packet
-filled : (octets : List ℕ) (n : ℕ) → (0 < length octets → version_of octets ≡ 0) → n ≡ stated_packet_len (octets ++ replicate 6 0) → length octets < n → IsPacket (octets ++ replicate (n - length octets) 0)
-filled octets n version stated h =
+filled_to_packet : (octets : List ℕ) (n : ℕ) → (0 < length octets → version_of octets ≡ 0) → n ≡ stated_packet_len (octets ++ replicate 6 0) → length octets < n → IsPacket (octets ++ replicate (n - length octets) 0)
+filled_to_packet octets n version stated h =
     let more : List ℕ = replicate (n - length octets) 0 in
     let long : length (octets ++ more) ≡ n = omega (arith, length-append octets more, length-replicate {A = ℕ} (n - length octets) 0) in
     record {
@@ -117,5 +117,5 @@ incomplete_may_become_whole octets h =
     let room : length octets < n = still_less octets less in (
       replicate (n - length octets) 0,
       All-replicate (λ octet. octet < 256) (n - length octets) 0 (omega arith),
-      filled octets n (foreign_false (length octets) (version_of octets) tests.0) refl room,
+      filled_to_packet octets n (foreign_false (length octets) (version_of octets) tests.0) refl room,
     )

@@ -19,8 +19,8 @@ module _ {X Y : Type 0} where
       let here : i < length kept = omega (arith, ap length same) in
       ap packets_in (is ∙ ap (λ xs. get_or xs i list) same) ∙ sym (get_or-map packets_in kept i list [] here) ∙ sym (get_or-with_empty_lists (map packets_in kept) i fit)
 
-  pub none_at : (items kept : List (Vec (Vec ℕ X) Y)) (i : ℕ) → items ≡ kept → length (map packets_in kept) ≤ channel_count → length items ≤ i → [] ≡ get_or (with_empty_lists (map packets_in kept)) i []
-  none_at items kept i same fit past =
+  pub none_kept_at : (items kept : List (Vec (Vec ℕ X) Y)) (i : ℕ) → items ≡ kept → length (map packets_in kept) ≤ channel_count → length items ≤ i → [] ≡ get_or (with_empty_lists (map packets_in kept)) i []
+  none_kept_at items kept i same fit past =
       let after : length (map packets_in kept) ≤ i = omega (arith, ap length same, length-map kept packets_in) in
       sym (get_or-with_empty_lists (map packets_in kept) i fit ∙ get_or_past (map packets_in kept) i [] after)
 

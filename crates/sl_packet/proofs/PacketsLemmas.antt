@@ -31,15 +31,15 @@ rest_of-whole octets len h =
     ∙ ap (λ n. drop n octets) long ∙ sym (drop-drop (length (concat later)) len octets)
 
 -- where the front isn't whole, there are no packets
-none_at : (f : Front) (octets after : List ℕ) → ((len : ℕ) → f ≡ WholePacket len → ⊥) → whole_at f octets ++ packets_from (octets_passed f octets) after ≡ packets_from (length octets) after
-none_at OtherVersion octets after h = refl
-none_at Incomplete octets after h = refl
-none_at (WholePacket len) octets after h = absurd (h len refl)
+no_packet_at : (f : Front) (octets after : List ℕ) → ((len : ℕ) → f ≡ WholePacket len → ⊥) → whole_at f octets ++ packets_from (octets_passed f octets) after ≡ packets_from (length octets) after
+no_packet_at OtherVersion octets after h = refl
+no_packet_at Incomplete octets after h = refl
+no_packet_at (WholePacket len) octets after h = absurd (h len refl)
 
 pub packets_of-none : (octets : List ℕ) → ((len : ℕ) → front_of octets ≡ WholePacket len → ⊥) → packets_of octets ≡ []
 packets_of-none [] h = refl
 packets_of-none (octet ∷ octets) h =
-    none_at (front_of (octet ∷ octets)) (octet ∷ octets) octets h ∙ packets_from-drop (length (octet ∷ octets)) octets
+    no_packet_at (front_of (octet ∷ octets)) (octet ∷ octets) octets h ∙ packets_from-drop (length (octet ∷ octets)) octets
     ∙ ap packets_of (drop_all (length (octet ∷ octets)) octets (omega arith))
 
 pub rest_of-none : (octets : List ℕ) → ((len : ℕ) → front_of octets ≡ WholePacket len → ⊥) → rest_of octets ≡ octets

@@ -13,8 +13,8 @@ abbrev Becomes : TcFormat → List ℕ → Type 0
 Becomes format octets = (more : List ℕ) × IsOctets more × (front_of format (octets ++ more) ≡ WholeFrame (length (octets ++ more)))
 
 -- zeros complete a frame where four octets state its length
-filled_up : (format : TcFormat) (octets : List ℕ) → 4 ≤ length octets → least_of format ≤ len_by_four octets → length octets ≤ len_by_four octets → Becomes format octets
-filled_up format octets four enough short =
+becomes_whole : (format : TcFormat) (octets : List ℕ) → 4 ≤ length octets → least_of format ≤ len_by_four octets → length octets ≤ len_by_four octets → Becomes format octets
+becomes_whole format octets four enough short =
     let wanted : ℕ = len_by_four octets - length octets in
     let more : List ℕ = replicate wanted 0 in
     let same = len_by_four-append octets more four in
@@ -47,12 +47,12 @@ incomplete_becomes_frame format octets each incomplete =
       | inl (is, four) ↦
           elim (front_tells format octets Incomplete incomplete) [
             | inl few ↦ absurd (omega (arith, few, four))
-            | inr (enough, short) ↦ filled_up format octets four enough (omega (arith, short))
+            | inr (enough, short) ↦ becomes_whole format octets four enough (omega (arith, short))
           ]
       | inr (is, few) ↦
           let h = header octets (omega (arith, few)) in
           let four : 4 ≤ length (octets ++ h.pad) = omega (arith, h.four) in
-          let (more, are, whole) = filled_up format (octets ++ h.pad) four (omega (arith, h.many, least_few format)) (omega (arith, h.many, h.four)) in (
+          let (more, are, whole) = becomes_whole format (octets ++ h.pad) four (omega (arith, h.many, least_few format)) (omega (arith, h.many, h.four)) in (
             h.pad ++ more,
             All-append (λ octet. octet < 256) h.pad more h.each are,
             subst (λ l. front_of format l ≡ WholeFrame (length l)) (append_assoc octets h.pad more) whole,

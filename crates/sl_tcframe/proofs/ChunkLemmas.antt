@@ -59,9 +59,9 @@ fronts_are_frames format octets len each = (
 )
 
 -- no frame is at the front of octets where their stated length rules it out
-no_frame : (format : TcFormat) (octets : List ℕ) → IsOctets octets
+begins_no_frame : (format : TcFormat) (octets : List ℕ) → IsOctets octets
     → (HasFrame format octets (stated_frame_len octets) → len_by_four octets ≡ stated_frame_len octets → ⊥) → front_len format octets ≡ None
-no_frame format octets each not_so =
+begins_no_frame format octets each not_so =
     elim (front_len-cases format octets) [
       | inl (f, some) ↦ absurd (not_so f (stated_by_four octets each f.header))
       | inr (none, is) ↦ is
@@ -69,20 +69,20 @@ no_frame format octets each not_so =
 
 pub rest_is_no_frame : (format : TcFormat) (octets : List ℕ) → IsOctets octets → IsRest format octets → front_len format octets ≡ None
 rest_is_no_frame format octets each is_rest =
-    no_frame format octets each (λ f same. elim (rest_fits format octets is_rest) [
+    begins_no_frame format octets each (λ f same. elim (rest_fits format octets is_rest) [
       | inl few ↦ let five = f.header in absurd (omega (arith, few, five))
       | inr (enough, more) ↦ let inside = f.inside in absurd (omega (arith, same, more, inside))
     ])
 
-pub none_below : (format : TcFormat) (octets more : List ℕ) → IsOctets (octets ++ more) → front_of format octets ≡ BelowLeast → front_len format (octets ++ more) ≡ None
-none_below format octets more each below =
+pub no_frame_below_least : (format : TcFormat) (octets more : List ℕ) → IsOctets (octets ++ more) → front_of format octets ≡ BelowLeast → front_len format (octets ++ more) ≡ None
+no_frame_below_least format octets more each below =
     let facts = front_tells format octets BelowLeast below in
-    no_frame format (octets ++ more) each
+    begins_no_frame format (octets ++ more) each
     (λ f same. let least = f.least in absurd (omega (arith, same, least, facts.1, len_by_four-append octets more facts.0)))
 
 pub below_least_is_no_frame : BelowLeastIsNoFrame
 below_least_is_no_frame format octets more len each below begins =
-    none-some len (sym (none_below format octets more each below) ∙ front_begins format (octets ++ more) len begins)
+    none-some len (sym (no_frame_below_least format octets more each below) ∙ front_begins format (octets ++ more) len begins)
 
 -- a whole front is a frame
 whole_is_cut : (format : TcFormat) (octets frame left : List ℕ) → octets ≡ frame ++ left → IsOctets frame → FrontIs format octets (WholeFrame (length frame))
@@ -177,7 +177,7 @@ stuck_theirs f new chunk left behind chunks frames each p below later =
     let four : (after_call f chunk None).rest ≡ take 4 octets = rw below refl in
     let again = subst (λ l. front_of f.format l ≡ BelowLeast) (sym four) (below_again f.format octets below) in
     let stays = yields_no_more (after_call f chunk None) new chunks frames behind again (ap length four ∙ below_taken f.format octets below) later in
-    let none = none_below f.format octets (concat chunks) (subst IsOctets (sym parts) each) below in (
+    let none = no_frame_below_least f.format octets (concat chunks) (subst IsOctets (sym parts) each) below in (
       ap (tc_frames_of f.format) (sym parts) ∙ frames_of-none f.format (octets ++ concat chunks) none ∙ sym stays.none,
       ap (tc_remainder_of f.format) (sym parts) ∙ remainder_of-none f.format (octets ++ concat chunks) none ∙ parts
           ∙ all_of-paused f chunk left chunks p ∙ ap (λ l. l ++ (left ++ concat chunks)) (sym stays.rest)

@@ -34,20 +34,20 @@ passed (suc count) first vc vcs low =
     ∙ ap (λ flags. has_vc vcs first ∷ flags) (passed count (suc first) vc vcs (lt_trans low (lt-suc_self first)))
 
 -- flags come back from the numbers at which they are set
-flags_of : (first : ℕ) (flags : List Bool) → flags_from (length flags) first (numbers_from first flags) ≡ flags
+flags_return : (first : ℕ) (flags : List Bool) → flags_from (length flags) first (numbers_from first flags) ≡ flags
 unfolding flags_from
-flags_of first [] = refl
-flags_of first (true ∷ flags) =
+flags_return first [] = refl
+flags_return first (true ∷ flags) =
     ap (λ same. (same || has_vc (numbers_from (suc first) flags) first)
     ∷ flags_from (length flags) (suc first) (first ∷ numbers_from (suc first) flags)) (eq-eqb first first refl)
     ∙ ap (λ l. true ∷ l)
     (passed (length flags) (suc first) first (numbers_from (suc first) flags) (lt-suc_self first)
-    ∙ flags_of (suc first) flags)
-flags_of first (false ∷ flags) =
+    ∙ flags_return (suc first) flags)
+flags_return first (false ∷ flags) =
     ap (λ has. has ∷ flags_from (length flags) (suc first) (numbers_from (suc first) flags))
     (none_below (suc first) flags first (lt-suc_self first))
-    ∙ ap (λ l. false ∷ l) (flags_of (suc first) flags)
+    ∙ ap (λ l. false ∷ l) (flags_return (suc first) flags)
 
 -- the 64 flags of a set come back from its numbers
 pub flags_back : (flags : List Bool) → length flags ≡ 64 → flags_from 64 0 (numbers_from 0 flags) ≡ flags
-flags_back flags many = ap (λ n. flags_from n 0 (numbers_from 0 flags)) (sym many) ∙ flags_of 0 flags
+flags_back flags many = ap (λ n. flags_from n 0 (numbers_from 0 flags)) (sym many) ∙ flags_return 0 flags

@@ -3,12 +3,12 @@ use Rattle.sl_fields.specs.Fecf.{fecf_of, register_of}
 use Rattle.sl_fields.proofs.FecfParts.{part-nil, zeros_by_FF_FF}
 use Rattle.sl_fields.proofs.error_control.fecf.Goals as goal
 
-preset : 65535 ≡ fecf_of []
+preset_number : 65535 ≡ fecf_of []
 unfolding fecf_of register_of
-preset = refl
+preset_number = refl
 
 pub returns-then-octets-lt-LEAST_FOLDED : goal.returns-then-octets-lt-LEAST_FOLDED
-returns-then-octets-lt-LEAST_FOLDED c = c.number.ensures ∙ c.after_octets.ensures [] preset
+returns-then-octets-lt-LEAST_FOLDED c = c.number.ensures ∙ c.after_octets.ensures [] preset_number
 
 pub returns : goal.returns
 returns c =

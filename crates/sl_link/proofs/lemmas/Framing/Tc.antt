@@ -7,7 +7,7 @@ use Rattle.sl_fields.specs.Field.{IsOctets}
 use Rattle.sl_tcframe.specs.TcDelimited.{front_len}
 use Rattle.sl_tcframe.specs.TcFrame.{is_cut}
 use Rattle.sl_tcframe.specs.TcFraming.{HasTakenTc, IsRest, IsStuck, TcFraming, WholeFrame, YieldsFrame, YieldsNone, after_call}
-use Rattle.sl_tcframe.proofs.ChunkLemmas.{below_again, less_than_whole, none_below, pause_parts, pause_rest, rest_is_no_frame}
+use Rattle.sl_tcframe.proofs.ChunkLemmas.{below_again, less_than_whole, no_frame_below_least, pause_parts, pause_rest, rest_is_no_frame}
 use Rattle.sl_tcframe.proofs.DelimitedLemmas.{frames_of-none}
 use Rattle.sl_tcframe.proofs.FramingLemmas.{below_is_not_whole, below_stays, fits_rest, front_tells}
 use Rattle.sl_link.specs.Link.Managed.{Parameters, tc_format}
@@ -53,10 +53,10 @@ module _ (f : TcFraming) (p : Parameters) (rest chunk left : List ℕ) (w : TcWa
   -- none begins at the front
   no_front : YieldsNone f chunk left → front_len f.format (rest ++ chunk) ≡ None
   no_front y = elim w.later [
-    | inr stuck ↦ rw rest_with (none_below f.format f.rest (w.more ++ chunk) (rw rest_with at all) stuck)
+    | inr stuck ↦ rw rest_with (no_frame_below_least f.format f.rest (w.more ++ chunk) (rw rest_with at all) stuck)
     | inl none ↦ rw (rest_alone none) (elim y.front [
       | inl more ↦ rest_is_no_frame f.format (f.rest ++ chunk) (rw (rest_alone none) at all) (inl more)
-      | inr below ↦ rw append-nil at (none_below f.format (f.rest ++ chunk) [] (rw append-nil (rw (rest_alone none) at all)) below)
+      | inr below ↦ rw append-nil at (no_frame_below_least f.format (f.rest ++ chunk) [] (rw append-nil (rw (rest_alone none) at all)) below)
     ])
   ]
 

@@ -29,12 +29,12 @@ units_back vc ns [] = refl
 units_back vc ns (unit ∷ list) = ap (λ l. unit ∷ l) (units_back vc (ns + 1) list)
 
 -- with segment headers each packet is divided into its units
-divided : (room map_id : ℕ) (packets : List (List ℕ)) → 0 < room → map_id < 64 → AllByRecursion IsPacket packets
+packets_are_divided : (room map_id : ℕ) (packets : List (List ℕ)) → 0 < room → map_id < 64 → AllByRecursion IsPacket packets
     → CarryPackets room map_id packets (flat_map (units_of_packet false room map_id) packets)
-divided room map_id [] some small each = none
-divided room map_id (packet ∷ packets) some small each =
+packets_are_divided room map_id [] some small each = none
+packets_are_divided room map_id (packet ∷ packets) some small each =
     more packet (units_of_packet false room map_id packet) packets (flat_map (units_of_packet false room map_id) packets)
-    (each_is_divided room map_id packet some small (packet_size packet each.0).0) (divided room map_id packets some small each.1)
+    (each_is_divided room map_id packet some small (packet_size packet each.0).0) (packets_are_divided room map_id packets some small each.1)
 
 -- without segment headers each packet is one segment
 one_segment : (room : ℕ) (packet : List ℕ) → 0 < length packet → length packet ≤ room → IsDividedInto room 0 packet (whole_segment packet ∷ [])
@@ -57,14 +57,14 @@ undivided room (packet ∷ packets) each short =
 -- ---- the segments of a virtual channel and a MAP
 
 module _ (format : TcFormat) (lists : List (List (List ℕ))) (vc : ℕ) (inside : vc < 64) (are : AreDeliverable lists) where
-  abbrev packets_at : ℕ → List (List ℕ)
-  packets_at index = slice_index_or lists index []
+  abbrev list_with : ℕ → List (List ℕ)
+  list_with index = slice_index_or lists index []
 
-  are_packets : (index : ℕ) → AllByRecursion IsPacket (packets_at index)
-  are_packets index = due_packets (packets_at index) (each-at (AllByRecursion IsDeliverable) lists index [] tt are.each)
+  are_packets : (index : ℕ) → AllByRecursion IsPacket (list_with index)
+  are_packets index = due_packets (list_with index) (each-at (AllByRecursion IsDeliverable) lists index [] tt are.each)
 
   carried : (b : Bool) (map_id : ℕ) → map_id < 64 → 0 < segment_room_of format → (b ≡ true → FitsOn format lists vc)
-      → CarryPackets (room_in b format) map_id (packets_at (64 * vc + map_id))
+      → CarryPackets (room_in b format) map_id (list_with (64 * vc + map_id))
       (segments_on map_id (map (segment_in b) (units_of_maps b (segment_room_of format) 0 (lists_on lists vc))))
   carried false map_id small some fits =
       let room = segment_room_of format in
@@ -75,17 +75,17 @@ module _ (format : TcFormat) (lists : List (List (List ℕ))) (vc : ℕ) (inside
       ap (segments_on map_id) (map-id (units_of_maps false room 0 own) ∙ units_are_segments room 0 own)
       ∙ parts_of_map room 0 map_id map_id own (omega arith) (omega (arith, size)) (omega (arith, size))
       ∙ sym (flat_units room map_id (slice_index_or own map_id [])) in
-      subst (CarryPackets room map_id (packets_at (64 * vc + map_id)))
+      subst (CarryPackets room map_id (list_with (64 * vc + map_id)))
       (sym (parts ∙ ap (flat_map (units_of_packet false room map_id)) (list_on lists vc map_id small)))
-      (divided room map_id (packets_at (64 * vc + map_id)) some small (are_packets (64 * vc + map_id)))
+      (packets_are_divided room map_id (list_with (64 * vc + map_id)) some small (are_packets (64 * vc + map_id)))
   carried true zero small some fits =
       let fit = fits refl in
-      let units : units_of_maps true (segment_room_of format) 0 (lists_on lists vc) ≡ packets_at (64 * vc) =
+      let units : units_of_maps true (segment_room_of format) 0 (lists_on lists vc) ≡ list_with (64 * vc) =
       units_are_packets (segment_room_of format) 0 (lists_on lists vc) (others_empty format lists vc fit) ∙ first_on lists vc in
       let index : 64 * vc ≡ 64 * vc + 0 = omega arith in
-      subst (λ n. CarryPackets (plain_room_of format) 0 (packets_at n) (segments_on 0 (map whole_segment (units_of_maps true (segment_room_of format) 0 (lists_on lists vc))))) index
-      (subst (CarryPackets (plain_room_of format) 0 (packets_at (64 * vc))) (sym (ap (λ l. segments_on 0 (map whole_segment l)) units ∙ all_segments (packets_at (64 * vc))))
-      (undivided (plain_room_of format) (packets_at (64 * vc)) (are_packets (64 * vc)) fit.short))
+      subst (λ n. CarryPackets (plain_room_of format) 0 (list_with n) (segments_on 0 (map whole_segment (units_of_maps true (segment_room_of format) 0 (lists_on lists vc))))) index
+      (subst (CarryPackets (plain_room_of format) 0 (list_with (64 * vc))) (sym (ap (λ l. segments_on 0 (map whole_segment l)) units ∙ all_segments (list_with (64 * vc))))
+      (undivided (plain_room_of format) (list_with (64 * vc)) (are_packets (64 * vc)) fit.short))
   carried true (suc map_id) small some fits =
       let fit = fits refl in
       let list = units_of_maps true (segment_room_of format) 0 (lists_on lists vc) in

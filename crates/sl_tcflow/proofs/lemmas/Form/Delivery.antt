@@ -52,9 +52,9 @@ module _ (format : TcFormat) (spacecraft : ℕ) (r : ReceptionParameters) (lists
   abbrev form : List ℕ
   form = tc_normal_form_of format spacecraft r.starts r.plain lists
 
-  packets_at : (vc map_id : ℕ) → vc < 64 → map_id < 64
+  packets_on_map : (vc map_id : ℕ) → vc < 64 → map_id < 64
       → packets_of_segments (segments_of r vc map_id (recorded_views format spacecraft form)) ≡ slice_index_or lists (64 * vc + map_id) []
-  packets_at vc map_id vc_fits map_id_fits =
+  packets_on_map vc map_id vc_fits map_id_fits =
       let room = segment_room_of format in
       let units = units_of_maps (is_plain r vc) room 0 (lists_on lists vc) in
       let all : length lists ≡ channel_count = are.all in
@@ -72,7 +72,7 @@ module _ (format : TcFormat) (spacecraft : ℕ) (r : ReceptionParameters) (lists
       let index : 64 * (channel / 64) + channel % 64 ≡ channel = omega arith in
       let packets = slice_index_or lists channel [] in
       let each = each-at (AllByRecursion IsDeliverable) lists channel [] tt are.each in
-      sym (ap without_idle (packets_at (channel / 64) (channel % 64) (omega (arith, below)) (omega arith) ∙ ap (λ n. slice_index_or lists n []) index) ∙ none_idle packets each)
+      sym (ap without_idle (packets_on_map (channel / 64) (channel % 64) (omega (arith, below)) (omega arith) ∙ ap (λ n. slice_index_or lists n []) index) ∙ none_idle packets each)
 
 -- ---- all channels
 

@@ -22,7 +22,7 @@ use Rattle.sl_fields.proofs.ListLemmas.{each-at, each-both, each-map, each-weake
 use Rattle.sl_tcflow.proofs.lemmas.Each.{each-flat_map_range, own_part}
 use Rattle.sl_tcflow.proofs.lemmas.Series.Part.{packet_size}
 use Rattle.sl_tcflow.proofs.lemmas.Form.Plain.{first_on, others_empty}
-use Rattle.sl_tcflow.proofs.lemmas.Series.Segment.{IsSegment, maps_parts, segments_of_maps, unit_made, units_are_packets, units_are_segments}
+use Rattle.sl_tcflow.proofs.lemmas.Series.Segment.{CanBeFramed, maps_parts, segments_of_maps, unit_made, units_are_packets, units_are_segments}
 
 -- ---- FARM-1
 
@@ -67,7 +67,7 @@ module _ (format : TcFormat) (spacecraft : ℕ) (is : IsFormat format) (known : 
   pub some_room : 0 < segment_room_of format
   some_room = let least = is.least in omega (arith, fecf_len_le format.fecf)
 
-  segment_is_unit : (segment : SegmentFields × List ℕ) → IsSegment (segment_room_of format) (λ m. 0 ≤ m) segment → IsUnit format (unit_made segment)
+  segment_is_unit : (segment : SegmentFields × List ℕ) → CanBeFramed (segment_room_of format) (λ m. 0 ≤ m) segment → IsUnit format (unit_made segment)
   segment_is_unit segment s = grind (arith, length-append, length-octets_of, fecf_len_le)
 
   -- the lists of a virtual channel have units that frames can have
@@ -76,7 +76,7 @@ module _ (format : TcFormat) (spacecraft : ℕ) (is : IsFormat format) (known : 
   are_units lists vc false each fits =
       subst (AllByRecursion (IsUnit format)) (sym (units_are_segments (segment_room_of format) 0 (lists_on lists vc)))
       (each-map (IsUnit format) unit_made (segments_of_maps (segment_room_of format) 0 (lists_on lists vc))
-      (each-weaker (IsSegment (segment_room_of format) (λ m. 0 ≤ m)) (λ segment. IsUnit format (unit_made segment)) segment_is_unit (segments_of_maps (segment_room_of format) 0 (lists_on lists vc))
+      (each-weaker (CanBeFramed (segment_room_of format) (λ m. 0 ≤ m)) (λ segment. IsUnit format (unit_made segment)) segment_is_unit (segments_of_maps (segment_room_of format) 0 (lists_on lists vc))
       (maps_parts (segment_room_of format) 0 (lists_on lists vc) (omega (arith, length-take 64 (drop (64 * vc) lists))))))
   are_units lists vc true each fits =
       let packets = slice_index_or lists (64 * vc) [] in

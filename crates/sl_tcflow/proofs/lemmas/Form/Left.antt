@@ -60,12 +60,12 @@ module _ (format : TcFormat) (spacecraft : ℕ) (starts plain : List ℕ) (lists
   later_lists channel = drop-drop 1 channel lists
 
   -- the next virtual channel
-  next_channel : (vc n channel : ℕ) → 64 * vc ≡ channel
+  next_vc_left : (vc n channel : ℕ) → 64 * vc ≡ channel
       → on_channels vc (suc n) ≡ on_maps vc 0 (start vc) (list channel) (take 63 (drop (channel + 1) lists)) ++ on_channels (vc + 1) n
-  next_channel vc n channel is = grind (arith, common_steps, concat-append, split_maps, first_list, later_lists)
+  next_vc_left vc n channel is = grind (arith, common_steps, concat-append, split_maps, first_list, later_lists)
 
   pub all_left : left 0 0 (start 0) ≡ tc_normal_form_of format spacecraft starts plain lists
-  all_left = left_is 0 0 0 0 (start 0) (omega arith) (omega arith) ∙ sym (next_channel 0 63 0 (omega arith))
+  all_left = left_is 0 0 0 0 (start 0) (omega arith) (omega arith) ∙ sym (next_vc_left 0 63 0 (omega arith))
 
   -- ---- channels whose packets are all framed
 
@@ -97,7 +97,7 @@ module _ (format : TcFormat) (spacecraft : ℕ) (starts plain : List ℕ) (lists
       let few : 62 - vc ≡ 63 - (vc + 1) = omega arith in
       after_last_map vc channel framed ns is all
       ∙ ap (on_channels (vc + 1)) one
-      ∙ next_channel (vc + 1) (62 - vc) (channel + 1) (omega (arith, is))
+      ∙ next_vc_left (vc + 1) (62 - vc) (channel + 1) (omega (arith, is))
       ∙ ap (λ n. on_maps (vc + 1) 0 (start (vc + 1)) (list (channel + 1)) (take 63 (drop (channel + 1 + 1) lists)) ++ on_channels (vc + 1 + 1) n) few
       ∙ sym (left_is (vc + 1) 0 (channel + 1) 0 (start (vc + 1)) (omega arith) (omega (arith, is)))
 

@@ -17,22 +17,22 @@ use Rattle.sl_tcflow.proofs.lemmas.Series.Segment.{on_all, on_none, packets_part
 
 -- ---- the lists of a virtual channel
 
-abbrev own : List (List (List ℕ)) → ℕ → List (List (List ℕ))
-own lists vc = take 64 (drop (64 * vc) lists)
+abbrev own_lists : List (List (List ℕ)) → ℕ → List (List (List ℕ))
+own_lists lists vc = take 64 (drop (64 * vc) lists)
 
 -- the list of a MAP
-pub list_on : (lists : List (List (List ℕ))) (vc map_id : ℕ) → map_id < 64 → slice_index_or (own lists vc) map_id [] ≡ slice_index_or lists (64 * vc + map_id) []
+pub list_on : (lists : List (List (List ℕ))) (vc map_id : ℕ) → map_id < 64 → slice_index_or (own_lists lists vc) map_id [] ≡ slice_index_or lists (64 * vc + map_id) []
 list_on lists vc map_id fits = get_or-take 64 (drop (64 * vc) lists) map_id [] fits ∙ get_or-drop (64 * vc) lists map_id []
 
-pub first_on : (lists : List (List (List ℕ))) (vc : ℕ) → slice_index_or (own lists vc) 0 [] ≡ slice_index_or lists (64 * vc) []
+pub first_on : (lists : List (List (List ℕ))) (vc : ℕ) → slice_index_or (own_lists lists vc) 0 [] ≡ slice_index_or lists (64 * vc) []
 first_on lists vc = let same : 64 * vc + 0 ≡ 64 * vc = omega arith in list_on lists vc 0 (omega arith) ∙ ap (λ n. slice_index_or lists n []) same
 
 -- the lists of the other MAPs are empty where there are no segment headers
 pub others_empty : (format : TcFormat) (lists : List (List (List ℕ))) (vc : ℕ) → FitsOn format lists vc
-    → (map_id : ℕ) → 0 < map_id → slice_index_or (own lists vc) map_id [] ≡ []
+    → (map_id : ℕ) → 0 < map_id → slice_index_or (own_lists lists vc) map_id [] ≡ []
 others_empty format lists vc fits map_id some =
     elim (leb_tells 64 map_id) [
-      | inl (test, past) ↦ get_or_past (own lists vc) map_id [] (omega (arith, past, length-take 64 (drop (64 * vc) lists)))
+      | inl (test, past) ↦ get_or_past (own_lists lists vc) map_id [] (omega (arith, past, length-take 64 (drop (64 * vc) lists)))
       | inr (test, inside) ↦ list_on lists vc map_id (omega (arith, inside)) ∙ fits.others map_id some (omega (arith, inside))
     ]
 
@@ -58,12 +58,12 @@ whole_parts (packet ∷ packets) each = grind (arith, whole_part, whole_parts pa
 
 module _ (format : TcFormat) (lists : List (List (List ℕ))) (vc room : ℕ) (some : 0 < room) (all : 64 ≤ length (drop (64 * vc) lists)) where
   abbrev packets : ℕ → List (List ℕ)
-  packets map_id = slice_index_or (own lists vc) map_id []
+  packets map_id = slice_index_or (own_lists lists vc) map_id []
 
-  each_on : (map_id : ℕ) → AllByRecursion (AllByRecursion IsPacket) (own lists vc) → AllByRecursion IsPacket (packets map_id)
-  each_on map_id each = each-at (AllByRecursion IsPacket) (own lists vc) map_id [] tt each
+  each_on : (map_id : ℕ) → AllByRecursion (AllByRecursion IsPacket) (own_lists lists vc) → AllByRecursion IsPacket (packets map_id)
+  each_on map_id each = each-at (AllByRecursion IsPacket) (own_lists lists vc) map_id [] tt each
 
-  whole_back : (map_id : ℕ) → map_id < 64 → FitsOn format lists vc → AllByRecursion (AllByRecursion IsPacket) (own lists vc)
+  whole_back : (map_id : ℕ) → map_id < 64 → FitsOn format lists vc → AllByRecursion (AllByRecursion IsPacket) (own_lists lists vc)
       → packets_of_segments (segments_on map_id (map whole_segment (packets 0))) ≡ packets map_id
   whole_back zero fits on each =
       ap (λ l. packets_of_segments (segments_on 0 l)) (whole_parts (packets 0) (each_on 0 each))
@@ -74,15 +74,15 @@ module _ (format : TcFormat) (lists : List (List (List ℕ))) (vc room : ℕ) (s
       ∙ ap packets_of_segments (on_none longest_packet (suc map_id) (λ m. m ≡ 0) (λ m is e. absurd (omega (arith, is, e))) (flat_map (segments_of_packet longest_packet 0) (packets 0)) (packets_parts longest_packet 0 (omega arith) (packets 0)))
       ∙ sym (others_empty format lists vc on (suc map_id) (omega arith))
 
-  pub back_on : (b : Bool) (map_id : ℕ) → map_id < 64 → (b ≡ true → FitsOn format lists vc) → AllByRecursion (AllByRecursion IsPacket) (own lists vc)
-      → packets_of_segments (segments_on map_id (map (segment_in b) (units_of_maps b room 0 (own lists vc)))) ≡ packets map_id
+  pub back_on : (b : Bool) (map_id : ℕ) → map_id < 64 → (b ≡ true → FitsOn format lists vc) → AllByRecursion (AllByRecursion IsPacket) (own_lists lists vc)
+      → packets_of_segments (segments_on map_id (map (segment_in b) (units_of_maps b room 0 (own_lists lists vc)))) ≡ packets map_id
   back_on false map_id fits on each =
-      let size : length (own lists vc) ≡ 64 = length-take-le 64 (drop (64 * vc) lists) all in
-      ap (λ l. packets_of_segments (segments_on map_id l)) (map-id (units_of_maps false room 0 (own lists vc)) ∙ units_are_segments room 0 (own lists vc))
-      ∙ ap packets_of_segments (parts_of_map room 0 map_id map_id (own lists vc) (omega arith) (omega (arith, size)) (omega (arith, size)))
+      let size : length (own_lists lists vc) ≡ 64 = length-take-le 64 (drop (64 * vc) lists) all in
+      ap (λ l. packets_of_segments (segments_on map_id l)) (map-id (units_of_maps false room 0 (own_lists lists vc)) ∙ units_are_segments room 0 (own_lists lists vc))
+      ∙ ap packets_of_segments (parts_of_map room 0 map_id map_id (own_lists lists vc) (omega arith) (omega (arith, size)) (omega (arith, size)))
       ∙ packets_back room map_id 0 (packets map_id) some fits (each_on map_id each)
   back_on true map_id fits on each =
-      ap (λ l. packets_of_segments (segments_on map_id (map whole_segment l))) (units_are_packets room 0 (own lists vc) (others_empty format lists vc (on refl)))
+      ap (λ l. packets_of_segments (segments_on map_id (map whole_segment l))) (units_are_packets room 0 (own_lists lists vc) (others_empty format lists vc (on refl)))
       ∙ whole_back map_id fits (on refl) each
 
 -- ---- whether lists of packets fit

@@ -42,8 +42,8 @@ module _ (format : TcFormat) (spacecraft vc : ℕ) where
 -- ---- the segments of a packet
 
 -- another segment begins within the packet
-pub counts_more : (room : ℕ) (packet : List ℕ) (number : ℕ) → 0 < room → number * room < length packet → number < segment_count room packet
-counts_more room packet number some inside = grind (arith, suc-mul, le-div_iff_mul-le)
+pub another_begins : (room : ℕ) (packet : List ℕ) (number : ℕ) → 0 < room → number * room < length packet → number < segment_count room packet
+another_begins room packet number some inside = grind (arith, suc-mul, le-div_iff_mul-le)
 
 -- no segment begins after the packet's end
 pub counts_all : (room : ℕ) (packet : List ℕ) (number : ℕ) → 0 < room → length packet ≤ number * room → segment_count room packet ≤ number
@@ -60,15 +60,15 @@ is_first_one room len number some inside = grind (arith, zero-mul, nat_tests, su
 -- the segment that leaves no octets is the last one
 is_last_one : (room : ℕ) (packet : List ℕ) (number : ℕ) → 0 < room → number < segment_count room packet
     → (length packet - number * room - room == 0) ≡ (number + 1 == segment_count room packet)
-is_last_one room packet number some there = grind (arith, suc-mul, leb_tells, counts_all, nat_tests, counts_more)
+is_last_one room packet number some there = grind (arith, suc-mul, leb_tells, counts_all, nat_tests, another_begins)
 
 module _ (format : TcFormat) (spacecraft vc map_id : ℕ) (base : List ℕ) (ns room : ℕ) (packet : List ℕ) where
-  abbrev unit_at : ℕ → List ℕ
-  unit_at = segment_at room map_id packet
+  abbrev numbered_unit : ℕ → List ℕ
+  numbered_unit = segment_at room map_id packet
 
   -- the units of the first segments of the packet
   abbrev units_to : ℕ → List (List ℕ)
-  units_to number = map unit_at (range_with_len 0 number)
+  units_to number = map numbered_unit (range_with_len 0 number)
 
   -- the first segments of the packet were added, and these octets are left
   pub record IsDivided (left : List ℕ) (next : ℕ) (form : List ℕ) : Type 0 where
@@ -92,21 +92,21 @@ module _ (format : TcFormat) (spacecraft vc map_id : ℕ) (base : List ℕ) (ns 
       let size : length left ≡ length packet - s.number * room = ap length s.left_is ∙ length-drop (s.number * room) packet in
       let rest : length later ≡ length left - room = ap length dropped ∙ length-drop room left in
       let inside : s.number * room < length packet = omega (arith, size) in
-      let more : s.number < count = counts_more room packet s.number some inside in
+      let more : s.number < count = another_begins room packet s.number some inside in
       let first_is : first ≡ (s.number == 0) = is_first ∙ ap (λ n. n == length packet) size ∙ is_first_one room (length packet) s.number some inside in
       let last_is : last ≡ (s.number + 1 == count) = is_last ∙ ap (λ n. n == 0) (rest ∙ ap (λ n. n - room) size) ∙ is_last_one room packet s.number some more in
       let flags : sequence_flags first last ≡ flags_at count s.number = rw (first_is, last_is) (sym (flags_are count s.number more)) in
       let next_frame = ad_frame format spacecraft vc next (segment_unit (record { flags = sequence_flags first last; map = map_id }) octets) in
-      let same : next_frame ≡ ad_frame format spacecraft vc (next % 256) (unit_at s.number) = same_frame next (next % 256) _ _ octets _ (omega arith) flags (taken ∙ ap (take room) s.left_is) in
+      let same : next_frame ≡ ad_frame format spacecraft vc (next % 256) (numbered_unit s.number) = same_frame next (next % 256) _ _ octets _ (omega arith) flags (taken ∙ ap (take room) s.left_is) in
       let one = suc-mul s.number room in
       record {
         number = suc s.number;
         left_is = dropped ∙ ap (drop room) s.left_is ∙ drop-drop room (s.number * room) packet ∙ ap (λ n. drop n packet) (omega (arith, one));
         so_far = more;
         pushed = subst (λ units. IsPushed format spacecraft vc base ns units next' form')
-            (sym (map-range_with_len_more unit_at 0 s.number s.number (omega arith)) ∙ ap (λ n. map unit_at (range_with_len 0 n)) (add-one s.number))
-            (pushed_more format spacecraft vc base ns (units_to s.number) (unit_at s.number ∷ []) next next' form form' s.pushed
-            (added ∙ ap (λ l. form ++ l) (same ∙ sym (append-nil (ad_frame format spacecraft vc (next % 256) (unit_at s.number))))) up);
+            (sym (map-range_with_len_more numbered_unit 0 s.number s.number (omega arith)) ∙ ap (λ n. map numbered_unit (range_with_len 0 n)) (add-one s.number))
+            (pushed_more format spacecraft vc base ns (units_to s.number) (numbered_unit s.number ∷ []) next next' form form' s.pushed
+            (added ∙ ap (λ l. form ++ l) (same ∙ sym (append-nil (ad_frame format spacecraft vc (next % 256) (numbered_unit s.number))))) up);
       }
     where
       same_frame : (ns ns' flags flags' : ℕ) (octets octets' : List ℕ) → ns ≡ ns' → flags ≡ flags' → octets ≡ octets'

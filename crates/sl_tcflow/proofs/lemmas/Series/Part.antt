@@ -14,7 +14,7 @@ use Rattle.sl_tcflow.specs.Reception.{packets_of_series}
 use Rattle.sl_tcflow.specs.Series.{flags_of, IsSeries, whole, segmented, SeriesAt, series_from, reassembled}
 use Rattle.sl_tcflow.specs.TcNormalForm.{segment_count, octets_at, flags_at, segment_at}
 use Rattle.sl_fields.proofs.ListLemmas.{each-append, each-weaker}
-use Rattle.sl_tcflow.proofs.lemmas.Form.Pushed.{counts_more}
+use Rattle.sl_tcflow.proofs.lemmas.Form.Pushed.{another_begins}
 use Rattle.sl_tcflow.proofs.lemmas.Series.Segment.{unit_made, part_at, part_is, segments_of_packet, units_of_parts, header_of_unit, octets_of_unit}
 use Rattle.sl_tcflow.proofs.lemmas.Series.Listed.{IsContinuing, series_at, begins_whole, begins_divided, completed_all, none_begin, continuing_begins_none, last_begins_none}
 
@@ -35,10 +35,10 @@ module _ (room : ℕ) (packet : List ℕ) where
       ∙ sym (take-add (n * room) room packet) ∙ ap (λ k. take k packet) next
 
   pub covers : 0 < room → length packet ≤ segment_count room packet * room
-  covers some = grind (arith, leb_tells, counts_more)
+  covers some = grind (arith, leb_tells, another_begins)
 
   pub some_parts : 0 < room → 0 < length packet → 0 < segment_count room packet
-  some_parts some long = let none = zero-mul room in counts_more room packet 0 some (omega (arith, none, long))
+  some_parts some long = let none = zero-mul room in another_begins room packet 0 some (omega (arith, none, long))
 
 octets_of_parts : (room map_id : ℕ) (packet : List ℕ) (numbers : List ℕ)
     → reassembled (map unit_made (map (part_at room map_id packet) numbers)) ≡ concat (map (octets_at room packet) numbers)

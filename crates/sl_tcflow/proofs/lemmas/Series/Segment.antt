@@ -21,7 +21,7 @@ abbrev pub unit_made : SegmentFields × List ℕ → List ℕ
 unit_made segment = segment_octets segment.0 ++ segment.1
 
 -- a segment that a frame can have: `room` octets at most, and a MAP with the property `On`
-pub record IsSegment (room : ℕ) (On : ℕ → Type 0) (segment : SegmentFields × List ℕ) : Type 0 where
+pub record CanBeFramed (room : ℕ) (On : ℕ → Type 0) (segment : SegmentFields × List ℕ) : Type 0 where
   pub header : FitsSegmentHeader segment.0
   pub inside : length segment.1 ≤ room
   pub on : On segment.0.map
@@ -33,28 +33,28 @@ header_of_unit segment fit = grind (arith, take_at, length-octets_of, reads_back
 pub octets_of_unit : (segment : SegmentFields × List ℕ) → segment_data (unit_made segment) ≡ segment.1
 octets_of_unit segment = drop_at (segment_octets segment.0) segment.1 1 (length-octets_of 1 (segment_fields segment.0))
 
-pub map_of_unit : (room : ℕ) (On : ℕ → Type 0) (segment : SegmentFields × List ℕ) → IsSegment room On segment → (header_at (unit_made segment)).map ≡ segment.0.map
+pub map_of_unit : (room : ℕ) (On : ℕ → Type 0) (segment : SegmentFields × List ℕ) → CanBeFramed room On segment → (header_at (unit_made segment)).map ≡ segment.0.map
 map_of_unit room On segment is = ap (λ (h : SegmentFields). h.map) (header_of_unit segment is.header)
 
 -- ---- segments on their MAPs
 
 module _ (room map_id : ℕ) where
   -- the segments of a MAP stay when the MAP is selected
-  pub on_all : (segments : List (SegmentFields × List ℕ)) → AllByRecursion (IsSegment room (λ m. m ≡ map_id)) segments
+  pub on_all : (segments : List (SegmentFields × List ℕ)) → AllByRecursion (CanBeFramed room (λ m. m ≡ map_id)) segments
       → segments_on map_id (map unit_made segments) ≡ map unit_made segments
   on_all segments each =
       filter_all (λ unit. (header_at unit).map == map_id) (map unit_made segments)
       (each-map (λ unit. ((header_at unit).map == map_id) ≡ true) unit_made segments
-      (each-weaker (IsSegment room (λ m. m ≡ map_id)) (λ segment. ((header_at (unit_made segment)).map == map_id) ≡ true)
+      (each-weaker (CanBeFramed room (λ m. m ≡ map_id)) (λ segment. ((header_at (unit_made segment)).map == map_id) ≡ true)
       (λ segment is. eq-eqb (header_at (unit_made segment)).map map_id (map_of_unit room (λ m. m ≡ map_id) segment is ∙ is.on)) segments each))
 
   -- the segments of other MAPs go when the MAP is selected
-  pub on_none : (On : ℕ → Type 0) → ((m : ℕ) → On m → m ≢ map_id) → (segments : List (SegmentFields × List ℕ)) → AllByRecursion (IsSegment room On) segments
+  pub on_none : (On : ℕ → Type 0) → ((m : ℕ) → On m → m ≢ map_id) → (segments : List (SegmentFields × List ℕ)) → AllByRecursion (CanBeFramed room On) segments
       → segments_on map_id (map unit_made segments) ≡ []
   on_none On apart segments each =
       filter_none (λ unit. (header_at unit).map == map_id) (map unit_made segments)
       (each-map (λ unit. ((header_at unit).map == map_id) ≡ false) unit_made segments
-      (each-weaker (IsSegment room On) (λ segment. ((header_at (unit_made segment)).map == map_id) ≡ false)
+      (each-weaker (CanBeFramed room On) (λ segment. ((header_at (unit_made segment)).map == map_id) ≡ false)
       (λ segment is. ne_eqb (header_at (unit_made segment)).map map_id (λ e. apart segment.0.map is.on (sym (map_of_unit room On segment is) ∙ e))) segments each))
 
 -- ---- the segments of packets
@@ -70,13 +70,13 @@ module _ (room map_id : ℕ) where
   abbrev pub segments_of_packet : List ℕ → List (SegmentFields × List ℕ)
   segments_of_packet packet = map (part_at packet) (range_with_len 0 (segment_count room packet))
 
-  pub part_is : map_id < 64 → (packet : List ℕ) (number : ℕ) → IsSegment room (λ m. m ≡ map_id) (part_at packet number)
+  pub part_is : map_id < 64 → (packet : List ℕ) (number : ℕ) → CanBeFramed room (λ m. m ≡ map_id) (part_at packet number)
   part_is small packet number = grind (arith, flags_fit, length-take)
 
-  pub packet_parts : map_id < 64 → (packet : List ℕ) → AllByRecursion (IsSegment room (λ m. m ≡ map_id)) (segments_of_packet packet)
+  pub packet_parts : map_id < 64 → (packet : List ℕ) → AllByRecursion (CanBeFramed room (λ m. m ≡ map_id)) (segments_of_packet packet)
   packet_parts small packet = grind (arith, common_steps, each-map, each-every, part_is)
 
-  pub packets_parts : map_id < 64 → (packets : List (List ℕ)) → AllByRecursion (IsSegment room (λ m. m ≡ map_id)) (flat_map segments_of_packet packets)
+  pub packets_parts : map_id < 64 → (packets : List (List ℕ)) → AllByRecursion (CanBeFramed room (λ m. m ≡ map_id)) (flat_map segments_of_packet packets)
   packets_parts small packets = grind (arith, each-flat_map, each-every, packet_parts)
 
   -- the segments of a packet are its units
@@ -117,11 +117,11 @@ units_are_packets room from (packets ∷ lists) none =
     ap₂ (λ a b. a ++ b) (flat_packets room from packets) (no_units room (from + 1) lists (λ map_id. none (suc map_id) (omega arith)))
     ∙ append-nil packets
 
-weaker_on : (room : ℕ) (On On' : ℕ → Type 0) → ((m : ℕ) → On m → On' m) → (segments : List (SegmentFields × List ℕ)) → AllByRecursion (IsSegment room On) segments
-    → AllByRecursion (IsSegment room On') segments
+weaker_on : (room : ℕ) (On On' : ℕ → Type 0) → ((m : ℕ) → On m → On' m) → (segments : List (SegmentFields × List ℕ)) → AllByRecursion (CanBeFramed room On) segments
+    → AllByRecursion (CanBeFramed room On') segments
 weaker_on room On On' weaker segments each = grind (arith, each-weaker)
 
-pub maps_parts : (room from : ℕ) (lists : List (List (List ℕ))) → from + length lists ≤ 64 → AllByRecursion (IsSegment room (λ m. from ≤ m)) (segments_of_maps room from lists)
+pub maps_parts : (room from : ℕ) (lists : List (List (List ℕ))) → from + length lists ≤ 64 → AllByRecursion (CanBeFramed room (λ m. from ≤ m)) (segments_of_maps room from lists)
 maps_parts room from [] few = tt
 maps_parts room from (packets ∷ lists) few = grind (arith, each-append, weaker_on, packets_parts, maps_parts room (from + 1) lists (omega arith))
 

@@ -2,7 +2,7 @@ use Rattle.std.proofs.Common.{[], arith}
 use Rattle.std.proofs.lemmas.List.{get_or_past}
 use Rattle.sl_packet.specs.KeptLists.{with_empty_lists}
 use Rattle.sl_packet.proofs.PaddedLemmas.{length-with_empty_lists}
-use Rattle.sl_packet.proofs.KeptLemmas.{kept_at, none_at, due_at, all_due}
+use Rattle.sl_packet.proofs.KeptLemmas.{kept_at, none_kept_at, due_at, all_due}
 use Rattle.sl_packet.proofs.delivered.Delivered.list.Goals as goal
 
 pub returns-in-Some-clause-packets : goal.returns-in-Some-clause-packets
@@ -17,7 +17,7 @@ returns-in-Some-clause-deliverable c = rw (← c.self.view_is) (due_at _ c.args.
 pub returns-in-None-clause-packets : goal.returns-in-None-clause-packets
 returns-in-None-clause-packets c =
     rw (← c.self.view_is, ← c.from.ensures)
-    (none_at c.deref.result.now c.self.inside.lists.items c.from.result c.deref.ensures.value c.self.invariant.fit c.in-None.ensures.lookup.3)
+    (none_kept_at c.deref.result.now c.self.inside.lists.items c.from.result c.deref.ensures.value c.self.invariant.fit c.in-None.ensures.lookup.3)
 
 pub returns-in-None-clause-deliverable : goal.returns-in-None-clause-deliverable
 returns-in-None-clause-deliverable c = rw (← c.self.view_is) (due_at _ c.args.channel c.self.invariant.fit c.self.invariant.deliverable)

@@ -28,7 +28,6 @@ const LEAST_FOLDED: usize = 22;
 /// The field is the remainder by the generator x^16 + x^12 + x^5 + 1, with the register preset to
 /// all ones. Each octet is taken from its most significant bit on, and the remainder isn't
 /// inverted. For no octets the field is 0xFFFF.
-#[inline(never)]
 pub fn fecf(octets: &[u8]) -> u16
     ensures { result ≡ fecf_of octets.now }
 {

@@ -36,9 +36,7 @@ pub fn add_part(octets: &mut Vec<u8>, part: &[u8]) -> Result<(), AllocError>
 }
 
 // Makes room for `more` octets where there is none. The octets stay, and the capacity becomes
-// 65,542 octets at most. Cold, as `give_back` is: both are rare, and `add_part` is inlined without
-// them.
-#[cold]
+// 65,542 octets at most.
 fn grow(octets: &mut Vec<u8>, more: usize) -> Result<(), AllocError>
     requires full { vec_capacity octets.old < vec_len octets.old + more }
     requires fits { vec_len octets.old + more ≤ longest_packet }
@@ -53,7 +51,6 @@ fn grow(octets: &mut Vec<u8>, more: usize) -> Result<(), AllocError>
 }
 
 /// Clears octets that are given up, and gives all their memory back: the capacity is 0.
-#[cold]
 pub fn give_back(octets: &mut Vec<u8>)
     ensures none { octets.new.items ≡ [] }
     ensures capacity { vec_capacity octets.new ≡ 0 }

@@ -147,9 +147,7 @@ impl TcFramer {
         frame
     }
 
-    // As `next`, where `next_from` finds no whole frame in the chunk alone. Such calls are expected
-    // to be rare.
-    #[cold]
+    // As `next`, where `next_from` finds no whole frame in the chunk alone.
     fn next_across(&mut self, chunk: &mut &[u8]) -> Option<&[u8]>
         ensures* taken { sem 𝓛 (Rests the_row self.entry (HasTakenTc self.old chunk.old.now result)) }
         ensures frame { IfSome result (λ frame.

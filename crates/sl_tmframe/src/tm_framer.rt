@@ -118,9 +118,8 @@ impl TmFramer {
         frame
     }
 
-    // As `next`, out of line: for a frame that lies in several chunks, and for a chunk that ends
-    // before a frame is complete.
-    #[cold]
+    // As `next`, for a frame that lies in several chunks, and for a chunk that ends before a frame
+    // is complete.
     fn next_across(&mut self, chunk: &mut &[u8]) -> Option<&[u8]>
         ensures* taken { sem 𝓛 (Rests the_row self.entry (HasTakenTm self.old chunk.old.now result)) }
         ensures frame { IfSome result (λ frame.

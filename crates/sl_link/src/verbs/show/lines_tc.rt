@@ -141,7 +141,7 @@ fn split_unit(unit: &[u8]) -> (SegmentHeader, &[u8])
 }
 
 // The branch is unpredictable, so all four texts are padded to one length and pushed alike: `show`
-// of TC frames of up to 64 octets takes 10 % less time.
+// of TC frames of up to 64 octets takes 11 % fewer instructions.
 fn push_flags(lines: &mut Lines, flags: u8)
     requires room { HasRoomFor number_width lines.old }
     requires fits { flags < 4 }

@@ -200,7 +200,8 @@ fn same_packets_in_memory<D: Deliverer, F: Framer + Drop>(
     requires none { F.waits framers.0 managed.now [] × F.waits framers.1 managed.now [] }
     requires same { (frame : List ℕ) → F.is_frame managed.now frame → D.is_frame managed.now frame }
     requires frames { F.frames_of managed.now ≡ (D.kind managed.now).frames_of }
-    ensures same { IfOk result (λ same. IsTrue same ↔ (packets_by_channel (D.kind managed.now) one.now
+    ensures same { IfOk result (λ same. IsTrue same ↔
+        (packets_by_channel (D.kind managed.now) one.now
         ≡ packets_by_channel (D.kind managed.now) other.now)) }
     ensures within { OnOk result (max (length one.now) (length other.now)
         ≤ managed.now.max_octets) }

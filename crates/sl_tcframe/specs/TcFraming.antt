@@ -119,9 +119,10 @@ IsStuck f = front_of f.format f.rest ≡ BelowLeast
 
 -- The state after a call with this chunk and this answer. A framer that is stuck stays as it was,
 -- which follows from `after` and the clauses of `next` and `rest`, and spares callers a proof.
-pub record HasTakenTc (old : TcFraming) (chunk : List ℕ) (answer : Option (Bor (List ℕ))) (new : TcFraming) : Type 0 where
-  pub after : new ≡ after_call old chunk (lent_octets answer)
-  pub stuck : IsStuck old → new ≡ old
+pub record HasTakenTc (old : TcFraming) (chunk : List ℕ) (answer : Option (Bor (List ℕ))) (new : TcFraming) : Type 0
+  where
+    pub after : new ≡ after_call old chunk (lent_octets answer)
+    pub stuck : IsStuck old → new ≡ old
 
 -- A framer that is stuck takes no octet and returns no frame.
 abbrev pub StaysStuck : TcFraming → List ℕ → Option (Bor (List ℕ)) → List ℕ → Type 0

@@ -91,7 +91,8 @@ impl TcFramer {
     pub fn next(&mut self, chunk: &mut &[u8]) -> Option<&[u8]>
         // The state of the framer once the returned frame is no longer borrowed: `Rests R s P`, of
         // std's `specs/Io/BufRead.antt`, says that P holds then of what `s` points to.
-        ensures* taken { sem 𝓛 (Rests the_row self.entry (HasTakenTc self.old chunk.old.now result)) }
+        ensures* taken { sem 𝓛 (Rests the_row self.entry
+            (HasTakenTc self.old chunk.old.now result)) }
 
         // A frame has the octets that were taken after the last frame, and then octets from the
         // front of the chunk.
@@ -126,7 +127,8 @@ impl TcFramer {
     /// copied.
     #[inline]
     pub fn next_from<'a, 'p: 'a>(&'a mut self, chunk: &mut &'p [u8]) -> Option<&'a [u8]>
-        ensures* taken { sem 𝓛 (Rests the_row self.entry (HasTakenTc self.old chunk.old.now result)) }
+        ensures* taken { sem 𝓛 (Rests the_row self.entry
+            (HasTakenTc self.old chunk.old.now result)) }
         ensures frame { IfSome result (λ frame.
             YieldsFrame self.old chunk.old.now frame.now chunk.new.now) }
         ensures cut { IfSome result (λ frame. is_cut self.old.format frame.now ≡ true) }
@@ -149,7 +151,8 @@ impl TcFramer {
 
     // As `next`, where `next_from` finds no whole frame in the chunk alone.
     fn next_across(&mut self, chunk: &mut &[u8]) -> Option<&[u8]>
-        ensures* taken { sem 𝓛 (Rests the_row self.entry (HasTakenTc self.old chunk.old.now result)) }
+        ensures* taken { sem 𝓛 (Rests the_row self.entry
+            (HasTakenTc self.old chunk.old.now result)) }
         ensures frame { IfSome result (λ frame.
             YieldsFrame self.old chunk.old.now frame.now chunk.new.now) }
         ensures cut { IfSome result (λ frame. is_cut self.old.format frame.now ≡ true) }

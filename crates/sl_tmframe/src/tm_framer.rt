@@ -67,7 +67,8 @@ impl TmFramer {
         // The state once the returned frame isn't borrowed any more: no octet is held after a
         // frame. Without a frame the chunk was added to the octets that were held. `Rests R s P`,
         // of std's `specs/Io/BufRead.antt`, says that P holds then of what `s` points to.
-        ensures* taken { sem 𝓛 (Rests the_row self.entry (HasTakenTm self.old chunk.old.now result)) }
+        ensures* taken { sem 𝓛 (Rests the_row self.entry
+            (HasTakenTm self.old chunk.old.now result)) }
 
         // A frame has the octets that were taken after the last frame, and then octets from the
         // front of the chunk. The other octets of the chunk are left.
@@ -98,7 +99,8 @@ impl TmFramer {
     /// copied. The program calls this one; docs/DECISIONS.md says why both are public.
     #[inline]
     pub fn next_from<'a, 'p: 'a>(&'a mut self, chunk: &mut &'p [u8]) -> Option<&'a [u8]>
-        ensures* taken { sem 𝓛 (Rests the_row self.entry (HasTakenTm self.old chunk.old.now result)) }
+        ensures* taken { sem 𝓛 (Rests the_row self.entry
+            (HasTakenTm self.old chunk.old.now result)) }
         ensures frame { IfSome result (λ frame.
             YieldsFrame self.old chunk.old.now frame.now chunk.new.now) }
         ensures used_up { IfNone result (UsesUpChunk self.old chunk.old.now chunk.new.now) }
@@ -121,7 +123,8 @@ impl TmFramer {
     // As `next`, for a frame that lies in several chunks, and for a chunk that ends before a frame
     // is complete.
     fn next_across(&mut self, chunk: &mut &[u8]) -> Option<&[u8]>
-        ensures* taken { sem 𝓛 (Rests the_row self.entry (HasTakenTm self.old chunk.old.now result)) }
+        ensures* taken { sem 𝓛 (Rests the_row self.entry
+            (HasTakenTm self.old chunk.old.now result)) }
         ensures frame { IfSome result (λ frame.
             YieldsFrame self.old chunk.old.now frame.now chunk.new.now) }
         ensures used_up { IfNone result (UsesUpChunk self.old chunk.old.now chunk.new.now) }

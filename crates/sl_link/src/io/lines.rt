@@ -145,8 +145,8 @@ impl Lines {
         }
     }
 
-    // Adds leading digits that aren't kept yet, and the last four. Cold, since few are: `show` of TM
-    // frames takes 7 % fewer instructions.
+    // Adds leading digits that aren't kept yet, and the last four. Cold, since few are: `show` of
+    // TM frames takes 7 % fewer instructions.
     #[cold]
     fn push_anew(&mut self, leading: u64, last: &[u8; 4])
         requires room { HasRoomFor number_width self.old }

@@ -22,7 +22,7 @@ const FORM_SIZE: usize = 0x40000;
 pub trait Form {
     ghost use Rattle.std.specs.Prelude.{◌≡◌, ◌≢◌, ◌+◌, ◌≤◌, ◌<◌, ℕ, List, [], IfErr, IfOk, OnOk, OnErr, IsTrue, IsFalse, vec_len};
     ghost use Rattle.std.specs.Vec.{vec_capacity};
-    // One definition for both kinds; `sl_tcflow` has one of its own, `AddsPieceTc`, which implies it.
+    // One definition for both kinds; that of `sl_tcflow`, `AddsPieceTc`, implies it.
     ghost use Rattle.sl_tmflow.specs.Form.{AddsPiece};
     ghost use Rattle.sl_link.specs.Normalise.Form.{piece_size};
     ghost use Rattle.sl_link.specs.declared.link.fault.LinkFault.{LinkFault};

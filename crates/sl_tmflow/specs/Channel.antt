@@ -20,12 +20,12 @@ abbrev pub no_frame : ChannelState
 no_frame = record { count = None; held = [] }
 
 -- a state, and the number of octets that there is memory for
-pub record KeptChannel : Type 0 where
+pub record ChannelWithMemory : Type 0 where
   pub state : ChannelState
   pub capacity : ℕ
 
 -- a virtual channel before its first frame, without memory
-abbrev pub new_channel : KeptChannel
+abbrev pub new_channel : ChannelWithMemory
 new_channel = record { state = no_frame; capacity = 0 }
 
 -- what the next frame does to the packet whose octets are held, after a frame with this count;
@@ -46,14 +46,14 @@ is_after (Some last) count = follows last count
 
 -- the octets that are held after a step, where `octets` are all octets of the packet so far, those
 -- of the frame included
-abbrev pub held_of : Continuation → List ℕ → List ℕ
-held_of (Ends packet) octets = []
-held_of Continues octets = octets
-held_of Breaks octets = []
+abbrev pub octets_held : Continuation → List ℕ → List ℕ
+octets_held (Ends packet) octets = []
+octets_held Continues octets = octets
+octets_held Breaks octets = []
 
 -- the octets that are held after the next frame, apart from the packets that start in the frame
 abbrev pub held_by : Continuation → List ℕ → TmView → List ℕ
-held_by step held next = held_of step (held ++ packet_data next)
+held_by step held next = octets_held step (held ++ packet_data next)
 
 -- the octets so far of the packet that a step breaks off, and none where it breaks off none
 abbrev pub broken_of : Continuation → List ℕ → List ℕ
@@ -62,8 +62,8 @@ broken_of Continues octets = []
 broken_of Breaks octets = octets
 
 -- the held octets that the next frame breaks off
-abbrev pub broken_by : ChannelState → TmView → List ℕ
-broken_by state next = broken_of (step_in state next) state.held
+abbrev pub broken_in : ChannelState → TmView → List ℕ
+broken_in state next = broken_of (step_in state next) state.held
 
 -- the octets, where their front is incomplete, and no octets otherwise
 abbrev pub incomplete_in : Front → List ℕ → List ℕ

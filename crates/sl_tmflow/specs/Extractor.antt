@@ -4,14 +4,14 @@ use Rattle.std.specs.List.{AllByRecursion, slice_index_or}
 use Rattle.sl_packet.specs.Packets.{without_idle}
 use Rattle.sl_tmframe.specs.TmFrame.{TmView}
 use Rattle.sl_tmflow.specs.VirtualChannel.{views_on, last_count}
-use Rattle.sl_tmflow.specs.Channel.{ChannelState, KeptChannel, new_channel}
+use Rattle.sl_tmflow.specs.Channel.{ChannelState, ChannelWithMemory, new_channel}
 use Rattle.sl_tmflow.specs.Delivery.{packets_ending}
 use Rattle.sl_tmflow.specs.Incomplete.{incomplete_of}
 use Rattle.sl_tmflow.specs.Recording.{packets_of_channel}
 
 -- the state and the memory of each virtual channel, and whether a fault came
 pub record ExtractorState : Type 0 where
-  pub channels : List KeptChannel
+  pub channels : List ChannelWithMemory
   pub has_failed : Bool
 
 -- the octets that are held, as a list of one packet; an empty list where no octets are held
@@ -37,7 +37,7 @@ ForProcessed state holds = (views : List TmView) → HasProcessed state views �
 -- there are eight virtual channels, and none of them has memory
 pub record HasNoMemory (state : ExtractorState) : Type 0 where
   pub eight : length state.channels ≡ 8
-  pub none : AllByRecursion (λ (channel : KeptChannel). channel.capacity ≡ 0) state.channels
+  pub none : AllByRecursion (λ (channel : ChannelWithMemory). channel.capacity ≡ 0) state.channels
 
 -- a fault came
 abbrev pub IsFailed : ExtractorState → Type 0
@@ -54,7 +54,8 @@ IsIncompleteAround views next =
     ⊎ (incomplete_of (views_on next.vc (views ++ next ∷ [])) ≢ [])
 
 -- the packets that an extractor hands over for a virtual channel: it has processed the first list
--- of frames and is given the frames of the second list one after another, and each call answers Ok
+-- of frames and is given the frames of the second list one after another, and each call answers Ok,
+-- which by its clause `accepted` hands over those that end in its frame
 abbrev pub handed_over : ℕ → List TmView → List TmView → List (List ℕ)
 handed_over vc views [] = []
 handed_over vc views (next ∷ later) =

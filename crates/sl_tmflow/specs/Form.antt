@@ -59,13 +59,13 @@ heading_after h frames =
     record {
       spacecraft = h.spacecraft;
       vc = h.vc;
-      master = (h.master + frames) % 256;
-      counter = (h.counter + frames) % 256;
+      mc_count = (h.mc_count + frames) % 256;
+      vc_count = (h.vc_count + frames) % 256;
     }
 
 -- the frame of packets with this heading, this first packet start and this data field
 abbrev pub headed_frame : TmFormat → Heading → Option ℕ → List ℕ → List ℕ
-headed_frame format h first field = packet_frame format h.spacecraft h.vc h.master h.counter first field
+headed_frame format h first field = packet_frame format h.spacecraft h.vc h.mc_count h.vc_count first field
 
 -- `many` frames of the data fields at the front of octets: `first` is the first packet start of the
 -- first frame, and no packet starts in the others
@@ -104,7 +104,7 @@ start_after start frames octets = if frames == 0 then start else length octets
 
 -- the heading of the first frame of the next virtual channel
 abbrev pub next_channel : Heading → Heading
-next_channel h = record { spacecraft = h.spacecraft; vc = h.vc + 1; master = h.master; counter = 0 }
+next_channel h = record { spacecraft = h.spacecraft; vc = h.vc + 1; mc_count = h.mc_count; vc_count = 0 }
 
 -- the frames of a virtual channel, and then those of later ones, which `others` makes by the heading
 -- after the channel's frames; `octets` are kept of packets that were taken, and `packets` weren't

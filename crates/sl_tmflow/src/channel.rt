@@ -1,4 +1,5 @@
-//! A virtual channel, and the packet that is incomplete on it.
+//! A virtual channel, and the packet that is incomplete on it. A `TmStep` is a report. In clauses a
+//! step is a `Continuation`: what the next frame does to the incomplete packet.
 ghost use Rattle.std.specs.Prelude.{◌≡◌, ◌≢◌, ◌⊎◌, ◌≤◌, ◌+◌, ◌++◌, [], length, OnOk, IfOk, IfErr};
 ghost use Rattle.sl_packet.specs.Front.{front_of, is_foreign};
 ghost use Rattle.sl_packet.specs.Packets.{packets_of, rest_of};
@@ -6,8 +7,8 @@ ghost use Rattle.sl_packet.specs.Stopping.{HandsOver};
 ghost use Rattle.sl_tmframe.specs.TmField.{as_content};
 ghost use Rattle.sl_tmframe.specs.TmFrame.{IsFieldInRange, Packets, longest_field};
 ghost use Rattle.sl_tmflow.specs.Anomaly.{gap_after};
-ghost use Rattle.sl_tmflow.specs.Channel.{broken_by, broken_of, foreign_in, held_after};
-ghost use Rattle.sl_tmflow.specs.Channel.{held_by, held_of, incomplete_in, is_after, new_channel};
+ghost use Rattle.sl_tmflow.specs.Channel.{broken_in, broken_of, foreign_in, held_after};
+ghost use Rattle.sl_tmflow.specs.Channel.{held_by, octets_held, incomplete_in, is_after, new_channel};
 ghost use Rattle.sl_tmflow.specs.Channel.{packets_after, channel_after, step_in};
 ghost use Rattle.sl_tmflow.specs.Delivery.{ended, field_step};
 ghost use Rattle.sl_tmflow.specs.Incomplete.{longest_incomplete};
@@ -34,13 +35,13 @@ pub struct Channel {
 }
 
 impl Model for Channel {
-    ghost use Rattle.sl_tmflow.specs.Channel.{KeptChannel};
+    ghost use Rattle.sl_tmflow.specs.Channel.{ChannelWithMemory};
 
-    ghost Value = { KeptChannel };
+    ghost Value = { ChannelWithMemory };
 
-    ghost use Rattle.sl_tmflow.specs.ExtractorModel.{kept_channel, HoldsFew};
+    ghost use Rattle.sl_tmflow.specs.ExtractorModel.{channel_with_memory, HoldsFew};
 
-    ghost view = { kept_channel };
+    ghost view = { channel_with_memory };
 
     ghost invariant = { HoldsFew };
 }
@@ -73,7 +74,7 @@ impl Channel {
         ensures gap { IfOk result (λ report.
             report.gap ≡ gap_after self.old.state.count frame.now.vc_count) }
         ensures dropped { IfOk result (λ report.
-            report.dropped ≡ length (broken_by self.old.state frame.now)) }
+            report.dropped ≡ length (broken_in self.old.state frame.now)) }
         ensures foreign { IfOk result (λ report. report.foreign ≡ foreign_in frame.now.field) }
 
         // Memory is refused only where a packet is incomplete, before the frame or after it.
@@ -115,11 +116,10 @@ impl Channel {
     fn gap_at(&self, count: u8) -> Option<u8>
         ensures { result ≡ gap_after self.now.state.count count }
     {
-        let expected = self.count?.wrapping_add(1);
         if self.is_followed_by(count) {
             None
         } else {
-            Some(expected)
+            Some(self.count?.wrapping_add(1))
         }
     }
 
@@ -140,7 +140,7 @@ impl Channel {
             sink.old frame.now.vc (ended (step_in self.old.state frame.now)) result sink.new }
         ensures few { IfOk result (λ report. report.packets + report.idle ≤ 1) }
         ensures dropped { IfOk result (λ report.
-            report.dropped ≡ length (broken_by self.old.state frame.now)) }
+            report.dropped ≡ length (broken_in self.old.state frame.now)) }
 
         // Memory is refused only where a packet is incomplete before the frame.
         ensures memory { IfErr result (λ flow. flow ≡ FlowFault.Memory → self.old.state.held ≢ []) }
@@ -199,7 +199,7 @@ impl Channel {
         requires short { length field.now.octets.now ≤ longest_field }
         // A packet that goes on is kept, with all octets of the field.
         ensures count { self.new.state.count ≡ self.old.state.count }
-        ensures held { OnOk result (self.new.state.held ≡ held_of
+        ensures held { OnOk result (self.new.state.held ≡ octets_held
             (field_step self.old.state.held (Packets field.now.first field.now.octets.now))
             (self.old.state.held ++ field.now.octets.now)) }
 

@@ -20,12 +20,12 @@ use std::marker::Model;
 
 /// Room for any piece, in octets. The longest piece is 2731 frames of 32 octets with an error
 /// control field, 87,392 octets in all. A packet of 65,542 octets fills their data fields of 24
-/// octets, together with up to 23 octets that were kept before it.
-const PIECE: usize = 90_112;
+/// octets, together with up to 23 octets that were kept before it. Rounded up to whole 4096 octets.
+const PIECE_ROOM: usize = 90_112;
 
 /// Room, in octets, for a data field that isn't full, 2041 octets at most, and for the idle packet
-/// that fills the field up, 2048 octets at most.
-const OCTETS: usize = 4096;
+/// that fills the field up, 2048 octets at most. Rounded up likewise.
+const OCTETS_ROOM: usize = 4096;
 
 /// The normal form of delivered packets, made piece by piece: frames of CCSDS 132.0-B in this
 /// project's own order (docs/normal-form.md). In clauses `left` is the list of its octets that are
@@ -57,8 +57,8 @@ struct Heading {
     spacecraft: u16,
     vc: u8,
     // The master channel frame count, and the virtual channel frame count.
-    master: u8,
-    counter: u8,
+    mc_count: u8,
+    vc_count: u8,
 }
 
 impl Heading {
@@ -68,8 +68,8 @@ impl Heading {
     {
         let frames = (frames % 256) as u8;
         Heading {
-            master: self.master.wrapping_add(frames),
-            counter: self.counter.wrapping_add(frames),
+            mc_count: self.mc_count.wrapping_add(frames),
+            vc_count: self.vc_count.wrapping_add(frames),
             ..self
         }
     }
@@ -90,7 +90,9 @@ impl<'d> Model for TmForm<'d> {
 impl<'d> TmForm<'d> {
     /// The normal form of the packets on channels 0 to 7 of `delivered`, which are the virtual
     /// channels, in frames of this format. All octets of the form are still to come. `spacecraft`,
-    /// the spacecraft identifier of all frames, is 0 to 1023. The `TmForm` holds no memory yet.
+    /// the spacecraft identifier of all frames, is 0 to 1023. Packets on channels from 8 on are
+    /// left out; [`fits_tm`](sl_packet::Delivered::fits_tm) tests that there are none. The `TmForm`
+    /// holds no memory yet.
     pub fn new(
         alloc: Global,
         shape: &TmShape,
@@ -116,8 +118,8 @@ impl<'d> TmForm<'d> {
             heading: Heading {
                 spacecraft,
                 vc: 0,
-                master: 0,
-                counter: 0,
+                mc_count: 0,
+                vc_count: 0,
             },
             packets: delivered.list(0),
             octets: Vec::new(alloc),
@@ -192,7 +194,7 @@ impl<'d> TmForm<'d> {
                 return Ok(true);
             } else if heading.vc < 7 {
                 self.heading.vc += 1;
-                self.heading.counter = 0;
+                self.heading.vc_count = 0;
                 self.packets = self.delivered.list(u16::from(self.heading.vc));
                 self.start = 0;
             } else {
@@ -214,8 +216,8 @@ fn reserve_piece(octets: &mut Vec<u8>, form: &mut Vec<u8>) -> Result<(), AllocEr
     ensures full { OnErr result (octets_room ≤ vec_capacity octets.old
         → vec_capacity form.old < vec_len form.old + piece_room) }
 {
-    octets.reserve(OCTETS - octets.len())?;
-    form.reserve(PIECE)
+    octets.reserve(OCTETS_ROOM - octets.len())?;
+    form.reserve(PIECE_ROOM)
 }
 
 // Adds the frames that the kept octets and then a packet fill. Keeps the octets beyond these
@@ -387,10 +389,12 @@ fn push_fields(
         let Heading {
             spacecraft,
             vc,
-            master,
-            counter,
+            mc_count,
+            vc_count,
         } = heading;
-        push_tm(form, shape, spacecraft, vc, master, counter, first, field)?;
+        push_tm(
+            form, shape, spacecraft, vc, mc_count, vc_count, first, field,
+        )?;
         heading = heading.after(1);
         first = None;
         left = later;

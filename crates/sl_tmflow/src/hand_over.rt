@@ -17,7 +17,9 @@ pub(crate) fn hand_packet<S: PacketSink>(
 ) -> Result<TmStep, FlowFault>
     requires vc { vc ≤ 7 }
     requires packet { IsPacket packet.now }
-    // An idle packet is counted. Any other packet is handed over and counted.
+    // An idle packet is counted. Any other packet is handed over and counted. `HandsOver` of
+    // `sl_packet` says so by what accepting a packet does to this sink (`taking`), what refusing
+    // does (`failing`), and its count of refused packets (`failures`).
     ensures hands_over { HandsOver S.taking S.failing S.failures counts_of
         sink.old vc (packet.now ∷ []) result sink.new }
 

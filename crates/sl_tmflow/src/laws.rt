@@ -54,8 +54,8 @@ pub fn tm_packets_are_handed_over()
 {}
 
 /// Packets in the order of their starts are also in the order of their ends. Each packet has ended
-/// by the frame in which the next one starts, and no two packets share an octet. At most one packet
-/// is listed as incomplete after a frame, with 1 to 65,541 octets so far.
+/// by the frame in which the next one starts, and no two packets share an octet. So at most one
+/// packet is listed as incomplete after a frame, with 1 to 65,541 octets so far.
 pub fn tm_packets_end_in_order()
     ensures in_order { EndsAreInOrder }
     ensures by_the_next { EachEndsByTheNextStart }

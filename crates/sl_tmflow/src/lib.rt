@@ -6,6 +6,10 @@
 //! new frames in one fixed way.
 #![tactic(auto)]
 
+// From the bottom: `packet_octets`, `report`, `hand_over`, `progress`, `channel` and `extractor`
+// take packets out of frames; `form` and `reframe` write frames. A `pub fn` of these modules is
+// public only in `laws`, or if it or its type stands in a `pub use` below; specs call the others
+// private.
 mod channel;
 mod extractor;
 mod form;

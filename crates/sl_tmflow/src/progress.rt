@@ -106,6 +106,7 @@ fn agreeing_pointer(len: usize, before: usize, field: &[u8]) -> Option<usize>
     ensures { result ≡ agreeing_pointer len before field.now }
 {
     if len < before + field.len() {
+        // Never fewer of an incomplete packet. The contract speaks of any octets.
         Some(len.saturating_sub(before))
     } else {
         None

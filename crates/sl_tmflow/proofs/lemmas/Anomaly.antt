@@ -12,7 +12,7 @@ use Rattle.sl_packet.proofs.PacketsLemmas.{each_has_packets}
 use Rattle.sl_tmframe.specs.TmFrame.{DataField, Packets, Idle, Opaque, TmView}
 use Rattle.sl_tmflow.specs.Anomaly.{EachForeignStartIsTold, EachGapIsTold, EachToldIsAForeignStart, EachToldIsAGap, foreign_of, gap_after, gap_of, broken_off, dropped_of}
 use Rattle.sl_tmflow.specs.VirtualChannel.{is_consecutive, views_on}
-use Rattle.sl_tmflow.specs.Channel.{foreign_in, ChannelState, held_step, broken_of, broken_by, channel_after}
+use Rattle.sl_tmflow.specs.Channel.{foreign_in, ChannelState, held_step, broken_of, broken_in, channel_after}
 use Rattle.sl_tmflow.specs.PacketStart.{packet_offsets, starts_from}
 use Rattle.sl_tmflow.proofs.lemmas.Delivery.Channel.{last_count-push, same_seen, seen_more}
 use Rattle.sl_tmflow.proofs.lemmas.Places.{some_passes, has_last}
@@ -108,10 +108,10 @@ lost_held : (last next : TmView) (held : List ℕ) → concat (flat_map (lost_in
 lost_held last next held = grind (arith, append-nil)
 
 dropped_after : (state : ChannelState) (before : List TmView) (last next : TmView) → HasSeen state (before ++ last ∷ [])
-    → concat (broken_off (before ++ last ∷ []) next) ≡ broken_by state next
+    → concat (broken_off (before ++ last ∷ []) next) ≡ broken_in state next
 dropped_after state before last next seen = grind (arith, broken_next, lost_held, last_count-push)
 
-pub dropped_seen : (state : ChannelState) (channel : List TmView) (next : TmView) → HasSeen state channel → dropped_of channel next ≡ length (broken_by state next)
+pub dropped_seen : (state : ChannelState) (channel : List TmView) (next : TmView) → HasSeen state channel → dropped_of channel next ≡ length (broken_in state next)
 dropped_seen state [] next seen =
     ap length (sym (ap (λ c. broken_of (held_step c state.held next) state.held) seen.count ∙ none_held state.held seen.held))
 dropped_seen state (view ∷ later) next seen =

@@ -12,7 +12,7 @@ use Rattle.sl_packet.specs.declared.sink.SinkFault.{SinkFault}
 use Rattle.sl_packet.proofs.StoppingLemmas.{hands_same}
 use Rattle.sl_tmframe.specs.TmFrame.{TmView, DataField, Packets}
 use Rattle.sl_tmflow.specs.VirtualChannel.{views_on, last_count}
-use Rattle.sl_tmflow.specs.Channel.{ChannelState, KeptChannel, new_channel, held_step, held_of, held_by, incomplete_in, held_after, channel_after, packets_after}
+use Rattle.sl_tmflow.specs.Channel.{ChannelState, ChannelWithMemory, new_channel, held_step, octets_held, held_by, incomplete_in, held_after, channel_after, packets_after}
 use Rattle.sl_tmflow.specs.Delivery.{Continuation, ended, front_step, outcome_of, outcome_of_front, packets_ending}
 use Rattle.sl_tmflow.specs.Incomplete.{frame_incomplete, incomplete_octets}
 use Rattle.sl_tmflow.specs.Extractor.{ExtractorState, HasSeen, HasProcessed, ended_by, held_as}
@@ -44,12 +44,12 @@ one_more_frame state (view ∷ later) next seen =
 
 -- ---- the octets that are held
 
-goes_on : (s : Continuation) (octet : ℕ) (octets : List ℕ) → carried s (octet ∷ octets) ++ [] ≡ held_as (held_of s (octet ∷ octets))
+goes_on : (s : Continuation) (octet : ℕ) (octets : List ℕ) → carried s (octet ∷ octets) ++ [] ≡ held_as (octets_held s (octet ∷ octets))
 goes_on s octet octets = grind arith
 
 -- where a packet starts, the incomplete one doesn't go on
 
-not_past_start : (pointer before : ℕ) (field all : List ℕ) (f : Front) → held_of (front_step (Some pointer) before field all f) all ≡ []
+not_past_start : (pointer before : ℕ) (field all : List ℕ) (f : Front) → octets_held (front_step (Some pointer) before field all f) all ≡ []
 not_past_start pointer before field all f = grind arith
 
 none_kept : (count : Option ℕ) (held : List ℕ) (next : TmView) (pointer : ℕ) (octets : List ℕ) → next.field ≡ Packets (Some pointer) octets
@@ -98,7 +98,7 @@ pub other_seen : (vc : ℕ) (views : List TmView) (next : TmView) → (next.vc �
 other_seen vc views next other = grind (arith, filter-append, eqb_tells, append-nil)
 
 -- the state of each channel, where one of them has one more frame
-pub each_seen : (states : List KeptChannel) (after : KeptChannel) (views : List TmView) (next : TmView) → next.vc < length states
+pub each_seen : (states : List ChannelWithMemory) (after : ChannelWithMemory) (views : List TmView) (next : TmView) → next.vc < length states
     → after.state ≡ channel_after (slice_index_or states next.vc new_channel).state next
     → (vc : ℕ) → HasSeen (slice_index_or states vc new_channel).state (views_on vc views)
     → HasSeen (slice_index_or (set states next.vc after) vc new_channel).state (views_on vc (views ++ next ∷ []))
@@ -116,11 +116,11 @@ each_seen states after views next inside is vc seen =
 -- ---- all channels
 
 -- the state of the channel with this number
-pub seen_at : (old : ExtractorState) (views : List TmView) (states : List KeptChannel) (at vc : ℕ) (d : KeptChannel) → HasProcessed old views → states ≡ old.channels
+pub seen_at : (old : ExtractorState) (views : List TmView) (states : List ChannelWithMemory) (at vc : ℕ) (d : ChannelWithMemory) → HasProcessed old views → states ≡ old.channels
     → length states ≡ 8 → vc ≤ 7 → at ≡ vc → HasSeen (slice_index_or states at d).state (views_on vc views)
 seen_at old views states at vc d processed are eight fits same = grind (arith, get_or_default)
 
-module _ (old : ExtractorState) (views : List TmView) (next : TmView) (states : List KeptChannel) (at : ℕ) (d : KeptChannel) where
+module _ (old : ExtractorState) (views : List TmView) (next : TmView) (states : List ChannelWithMemory) (at : ℕ) (d : ChannelWithMemory) where
   pub ended_now : HasProcessed old views → states ≡ old.channels → length states ≡ 8 → next.vc ≤ 7 → at ≡ next.vc
       → ended_by views next ≡ packets_after (slice_index_or states at d).state next
   ended_now processed are eight fits same = grind (arith, common_steps, one_more_frame, seen_at)
@@ -132,7 +132,7 @@ module _ (old : ExtractorState) (views : List TmView) (next : TmView) (states : 
       → HasProcessed old views → HandsOver taking failing failures counts_of sink channel (ended_by views next) result sink'
   handed_now are eight fits same handed processed = hands_same refl (sym (ended_now processed are eight fits same)) handed
 
-  pub processed_more : (after : KeptChannel) → HasProcessed old views → states ≡ old.channels → length states ≡ 8 → next.vc ≤ 7 → at ≡ next.vc
+  pub processed_more : (after : ChannelWithMemory) → HasProcessed old views → states ≡ old.channels → length states ≡ 8 → next.vc ≤ 7 → at ≡ next.vc
       → after.state ≡ channel_after (slice_index_or states at d).state next
       → (failed : Bool) → failed ≡ false
       → HasProcessed (record { channels = set states at after; has_failed = failed }) (views ++ next ∷ [])
@@ -140,7 +140,7 @@ module _ (old : ExtractorState) (views : List TmView) (next : TmView) (states : 
       let inside : next.vc < length states = omega arith in
       let now : after.state ≡ channel_after (slice_index_or states next.vc new_channel).state next =
       by ∙ ap (λ i. channel_after (slice_index_or states i d).state next) same
-      ∙ ap (λ (s : KeptChannel). channel_after s.state next) (get_or_default states next.vc d new_channel inside) in
+      ∙ ap (λ (s : ChannelWithMemory). channel_after s.state next) (get_or_default states next.vc d new_channel inside) in
       record {
         working = working;
         each = λ vc below.

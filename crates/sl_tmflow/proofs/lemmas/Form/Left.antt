@@ -188,7 +188,7 @@ module _ (format : TmFormat) (spacecraft vc before : ℕ) (packets : List (List 
       }
 
 from_channel : (format : TmFormat) (spacecraft : ℕ) → 7 ≤ field_room_of format → field_room_of format ≤ 65536 → (lists : List (List (List ℕ))) (vc before master : ℕ) → master ≡ before % 256
-    → lists_left format (record { spacecraft = spacecraft; vc = vc; master = master; counter = 0 }) lists ≡ concat (frames_from_channel format spacecraft vc before lists)
+    → lists_left format (record { spacecraft = spacecraft; vc = vc; mc_count = master; vc_count = 0 }) lists ≡ concat (frames_from_channel format spacecraft vc before lists)
 from_channel format spacecraft wide short [] vc before master is = refl
 from_channel format spacecraft wide short (packets ∷ lists) vc before master is =
     let filled = with_filling (field_room_of format) packets in
@@ -197,14 +197,14 @@ from_channel format spacecraft wide short (packets ∷ lists) vc before master i
     let others = λ (k : Heading). lists_left format (next_channel k) lists in
     let first : master ≡ (before + 0) % 256 = omega (arith, is) in
     let count : length own ≡ total = length-map-range_with_len (channel_frame format spacecraft vc before filled) 0 total in
-    ap (λ m. channel_left format (record { spacecraft = spacecraft; vc = vc; master = m; counter = 0 }) 0 [] packets others) first
+    ap (λ m. channel_left format (record { spacecraft = spacecraft; vc = vc; mc_count = m; vc_count = 0 }) 0 [] packets others) first
     ∙ still_to_come format spacecraft vc before packets wide short packets 0 total 0 [] others (omega (arith, wide)) (at_front format spacecraft vc before packets wide short) (omega arith)
     ∙ ap (λ l. concat own ++ l) (from_channel format spacecraft wide short lists (vc + 1) (before + length own) ((before + (0 + total)) % 256) (omega (arith, count)))
     ∙ sym (concat-append own (frames_from_channel format spacecraft (vc + 1) (before + length own) lists))
 
 -- where nothing is made, the normal form is still to come
 pub all_left : (format : TmFormat) (spacecraft : ℕ) (lists : List (List (List ℕ))) → 7 ≤ field_room_of format → field_room_of format ≤ 65536
-    → form_left format (record { spacecraft = spacecraft; vc = 0; master = 0; counter = 0 }) 0 [] (slice_index_or lists 0 []) (drop 1 (take 8 lists)) ≡ form_of format spacecraft lists
+    → form_left format (record { spacecraft = spacecraft; vc = 0; mc_count = 0; vc_count = 0 }) 0 [] (slice_index_or lists 0 []) (drop 1 (take 8 lists)) ≡ form_of format spacecraft lists
 unfolding form_left
 all_left format spacecraft [] wide short = refl
 all_left format spacecraft (packets ∷ lists) wide short = from_channel format spacecraft wide short (take 8 (packets ∷ lists)) 0 0 0 refl

@@ -19,7 +19,7 @@ use Rattle.sl_tmflow.proofs.lemmas.Form.Fill.{no_filling}
 
 -- the heading of a virtual channel's frame with this number, after `before` frames of other ones
 abbrev pub numbered : ℕ → ℕ → ℕ → ℕ → Heading
-numbered spacecraft vc before number = record { spacecraft = spacecraft; vc = vc; master = (before + number) % 256; counter = number % 256 }
+numbered spacecraft vc before number = record { spacecraft = spacecraft; vc = vc; mc_count = (before + number) % 256; vc_count = number % 256 }
 
 pub numbered_later : (spacecraft vc before number n : ℕ) → heading_after (numbered spacecraft vc before number) n ≡ numbered spacecraft vc before (number + n)
 numbered_later spacecraft vc before number n = grind arith

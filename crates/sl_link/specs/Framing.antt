@@ -75,8 +75,9 @@ pub record StopsPassing {R : Type 0} (remaining : R → Option (List ℕ)) (read
   pub cause : (taken first × (fault ≢ Memory) × IsCaused reader reader' no_stream no_stream limit past octets fault)
       ⊎ (stopped first fault × (faults_of reader' ≡ faults_of reader) × (length octets ≤ limit))
 
--- Memory may be refused at some frame of what was read: `may_refuse_memory` holds of the frames up to it. Here and
--- below this is any condition for that, such as `IsIncompleteAtLastTm`, or `MayRefuseStoreMemoryTm` for stored packets.
+-- Memory may be refused at some frame of what was read of a stream: `may_refuse_memory` holds of the frames up to it.
+-- Here and below this is any condition for that, such as `IsIncompleteAtLastTm`, or `MayRefuseStoreMemoryTm` for stored
+-- packets.
 pub record MayRefuseMemoryAtSome {R : Type 0} (remaining : R → Option (List ℕ)) (old new : Counted R)
     (frames_of : List ℕ → List (List ℕ)) (may_refuse_memory : List (List ℕ) → Type 0) : Type 0 where
   pub octets : List ℕ
@@ -86,7 +87,7 @@ pub record MayRefuseMemoryAtSome {R : Type 0} (remaining : R → Option (List �
   pub in_order : frames_of octets ≡ first ++ later
   pub at_last : may_refuse_memory first
 
--- memory may be refused at some frame of a recording in memory
+-- the same of a recording that is a slice
 pub record MayRefuseMemoryIn (frames_of : List ℕ → List (List ℕ)) (may_refuse_memory : List (List ℕ) → Type 0)
     (recording : List ℕ) : Type 0 where
   pub first : List (List ℕ)

@@ -9,7 +9,8 @@ pub mod Same
 pub mod Tally
 pub mod Verbs
 -- Definitions of other crates that the public contracts rest on, for a crate that stands on this one and doesn't name
--- those: it reaches them by this crate's name. The crates here name all that they import from, and want no line here.
+-- those: it reaches them by this crate's name. The crates here name all that they import from, and want no line here. A
+-- definition that such a crate misses may be added.
 -- Where files of two crates have one name, as `Recording` of the flow crates, one of them at most can be in the list.
 pub use Rattle.sl_cop.specs.Farm
 pub use Rattle.sl_cop.specs.FarmClcw

@@ -28,7 +28,7 @@ abbrev pub StopsInMemory : ℕ → ℕ → Type 0 → LinkFault → Type 0
 StopsInMemory limit octets at_memory fault =
     ((fault ≡ TooLong) × (limit < octets)) ⊎ ((fault ≡ Memory) × (octets ≤ limit) × at_memory)
 
--- Memory for the store may be refused: at some frame of a recording in memory a packet (TM) or a series (TC) is
+-- Memory for the store may be refused, where the recording is a slice: at some frame a packet (TM) or a series (TC) is
 -- incomplete, before it or after it, or a packet was delivered.
 abbrev pub MayRefuseStoreMemoryInTm : Parameters → List ℕ → Type 0
 MayRefuseStoreMemoryInTm p = MayRefuseMemoryIn (tm_frames_of p.tm_length) (MayRefuseStoreMemoryTm p)

@@ -27,8 +27,8 @@ abbrev pub remainder_after : List (List ℕ) → List ℕ → ℕ
 remainder_after frames recording = length recording - length (concat frames)
 
 -- what is counted in a recording, by the counts of frames and a remainder, and the frames of a recording
-abbrev pub listing_counts : (List (List ℕ) → ℕ → Counts) → (List ℕ → List (List ℕ)) → List ℕ → Counts
-listing_counts counts frames_of recording =
+abbrev pub recording_counts : (List (List ℕ) → ℕ → Counts) → (List ℕ → List (List ℕ)) → List ℕ → Counts
+recording_counts counts frames_of recording =
     counts (frames_of recording) (remainder_after (frames_of recording) recording)
 
 -- ---- while frames are counted, in terms of the code. Contracts of private functions alone cite this section.

@@ -31,7 +31,7 @@ pub fn read_recording<F: Framer, S: FrameSink, R: Read>(
     // The framer holds no octets yet, and the sink has taken no frame, but may take each that the
     // framer cuts.
     requires none { F.waits framer.old managed.now [] }
-    requires same { (frame : List ℕ) → F.is_frame managed.now frame → S.is_frame managed.now frame }
+    requires fits { (frame : List ℕ) → F.is_frame managed.now frame → S.is_frame managed.now frame }
     requires begun { S.took managed.now sink.old sink.old [] }
     ensures all { IfOk result (PassesOver R.remaining reader.old reader.new
         (F.frames_of managed.now) (S.took managed.now sink.old sink.new) managed.now.max_octets) }
@@ -47,7 +47,7 @@ pub fn read_recording<F: Framer, S: FrameSink, R: Read>(
             return Ok(octets);
         }
         octets += taken as u64;
-        deliver_chunk(managed, framer, sink, &buffer[..taken])?;
+        cut_chunk(managed, framer, sink, &buffer[..taken])?;
     }
 }
 
@@ -56,7 +56,7 @@ pub fn read_recording<F: Framer, S: FrameSink, R: Read>(
 /// have come, `octets`, those of the chunk included. The last argument of `HasCutFrames` is the
 /// part of `octets` that the framer hasn't seen yet: before the call the whole chunk, and at a
 /// fault what is `left` of it.
-pub fn deliver_chunk<F: Framer, S: FrameSink>(
+pub fn cut_chunk<F: Framer, S: FrameSink>(
     managed: &Managed,
     framer: &mut F,
     sink: &mut S,

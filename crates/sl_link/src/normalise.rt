@@ -9,13 +9,13 @@ ghost use Rattle.sl_link.specs.Link.Managed.{tc_format};
 ghost use Rattle.sl_link.specs.Normalise.Form.{HasSome, IsMemoryRefused, StoresAll, channel_lists, form_text};
 ghost use Rattle.sl_link.specs.Normalise.Tc.{tc_normal_form};
 ghost use Rattle.sl_link.specs.Normalise.Tm.{tm_normal_form};
-ghost use Rattle.sl_link.specs.Tally.{listing_counts};
+ghost use Rattle.sl_link.specs.Tally.{recording_counts};
 ghost use Rattle.sl_link.specs.Io.Streams.{IsRead, KeepsPackets, Stops, StopsReading, StopsWriting, Translates, TranslatesWithTotals, WritesText};
 ghost use Rattle.sl_link.specs.Framing.{MayRefuseMemoryAtSome, MayRefuseMemoryIn, chunk_size};
 
 mod form;
 
-use crate::framing::{CHUNK_SIZE, FrameSink, Framer, deliver_chunk, read_recording};
+use crate::framing::{CHUNK_SIZE, FrameSink, Framer, cut_chunk, read_recording};
 use crate::kind::Deliverer;
 use crate::link::counted::Counted;
 use crate::link::fault::LinkFault;
@@ -202,14 +202,14 @@ fn normalise<D: Formed, F: Framer, R: Read, W: Write>(
     writer: &mut Counted<W>,
 ) -> Result<Totals, LinkFault>
     requires none { F.waits framer.old managed.now [] }
-    requires same { (frame : List ℕ) → F.is_frame managed.now frame → D.is_frame managed.now frame }
+    requires fits { (frame : List ℕ) → F.is_frame managed.now frame → D.is_frame managed.now frame }
     requires frames { F.frames_of managed.now ≡ (D.kind managed.now).frames_of }
     ensures normal_form { OnOk result (Translates R.remaining W.contents reader.old reader.new
         writer.old writer.new (form_text (D.kind managed.now) (D.form_of managed.now))
         managed.now.max_octets) }
     ensures totals { IfOk result (TranslatesWithTotals R.remaining W.contents reader.old reader.new
         writer.old writer.new (form_text (D.kind managed.now) (D.form_of managed.now))
-        (listing_counts (counts_in (D.kind managed.now)) (D.kind managed.now).frames_of)
+        (recording_counts (counts_in (D.kind managed.now)) (D.kind managed.now).frames_of)
         managed.now.max_octets) }
     ensures packets { OnOk result (KeepsPackets R.remaining W.contents reader.old reader.new
         writer.old writer.new (packets_by_channel (D.kind managed.now))) }
@@ -236,7 +236,7 @@ pub fn store_packets<D: Deliverer, F: Framer, R: Read>(
     reader: &mut Counted<R>,
 ) -> Result<(Delivered, Totals), LinkFault>
     requires none { F.waits framer.old managed.now [] }
-    requires same { (frame : List ℕ) → F.is_frame managed.now frame → D.is_frame managed.now frame }
+    requires fits { (frame : List ℕ) → F.is_frame managed.now frame → D.is_frame managed.now frame }
     requires frames { F.frames_of managed.now ≡ (D.kind managed.now).frames_of }
     ensures all { IfOk result (λ stored. StoresAll R.remaining reader.old reader.new
         (D.kind managed.now) managed.now.max_octets stored.0.lists stored.1) }
@@ -272,7 +272,7 @@ pub fn store_packets_in_memory<D: Deliverer, F: Framer>(
     recording: &[u8],
 ) -> Result<Delivered, LinkFault>
     requires none { F.waits framer.old managed.now [] }
-    requires same { (frame : List ℕ) → F.is_frame managed.now frame → D.is_frame managed.now frame }
+    requires fits { (frame : List ℕ) → F.is_frame managed.now frame → D.is_frame managed.now frame }
     requires frames { F.frames_of managed.now ≡ (D.kind managed.now).frames_of }
     // `AddsByChannel` holds of the kind; callers need it.
     ensures all { IfOk result (λ stored. AddsByChannel (D.kind managed.now)
@@ -287,7 +287,7 @@ pub fn store_packets_in_memory<D: Deliverer, F: Framer>(
         so_far: Totals::none(),
         delivered: Delivered::new(alloc),
     };
-    deliver_chunk(managed, framer, &mut store, recording)?;
+    cut_chunk(managed, framer, &mut store, recording)?;
     let Store { delivered, .. } = store;
     Ok(delivered)
 }

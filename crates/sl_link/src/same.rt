@@ -116,7 +116,7 @@ fn same_packets<D: Deliverer, F: Framer + Drop, A: Read, B: Read>(
     other: &mut Counted<B>,
 ) -> Result<bool, LinkFault>
     requires none { F.waits framers.0 managed.now [] × F.waits framers.1 managed.now [] }
-    requires same { (frame : List ℕ) → F.is_frame managed.now frame → D.is_frame managed.now frame }
+    requires fits { (frame : List ℕ) → F.is_frame managed.now frame → D.is_frame managed.now frame }
     requires frames { F.frames_of managed.now ≡ (D.kind managed.now).frames_of }
     ensures same { IfOk result (ComparesPackets A.remaining B.remaining one.old one.new other.old
         other.new (packets_by_channel (D.kind managed.now)) managed.now.max_octets) }
@@ -198,7 +198,7 @@ fn same_packets_in_memory<D: Deliverer, F: Framer + Drop>(
     other: &[u8],
 ) -> Result<bool, LinkFault>
     requires none { F.waits framers.0 managed.now [] × F.waits framers.1 managed.now [] }
-    requires same { (frame : List ℕ) → F.is_frame managed.now frame → D.is_frame managed.now frame }
+    requires fits { (frame : List ℕ) → F.is_frame managed.now frame → D.is_frame managed.now frame }
     requires frames { F.frames_of managed.now ≡ (D.kind managed.now).frames_of }
     ensures same { IfOk result (λ same. IsTrue same ↔
         (packets_by_channel (D.kind managed.now) one.now

@@ -55,7 +55,7 @@ pub trait Verb {
             (may_refuse_memory managed.now (before ++ frame.now ∷ [])) fault) };
 
     /// Adds the lines after the last frame of a recording of `octets` octets, and answers the
-    /// totals.
+    /// totals. `managed` is there for the clauses.
     fn finish<W: Write>(
         &self,
         managed: &Managed,

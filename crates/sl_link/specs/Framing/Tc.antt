@@ -12,7 +12,8 @@ use Rattle.sl_link.specs.Link.Managed.{Parameters, tc_format}
 abbrev pub is_tc_frame : Parameters → List ℕ → Type 0
 is_tc_frame p frame = is_cut (tc_format p) frame ≡ true
 
--- the frames of a recording, for framers, kinds and engines; texts and counts cite `tc_frames_of`, which says the same
+-- the frames of a recording, by the managed parameters, as framers, kinds and `engine_frames` have it; clauses of
+-- calls, texts and counts cite `tc_frames_of`, which takes no more of them than it needs
 abbrev pub tc_frames : Parameters → List ℕ → List (List ℕ)
 tc_frames p recording = tc_frames_of (tc_format p) recording
 

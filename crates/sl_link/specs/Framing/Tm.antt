@@ -11,7 +11,8 @@ use Rattle.sl_link.specs.Link.Managed.{Parameters}
 abbrev pub is_tm_frame : Parameters → List ℕ → Type 0
 is_tm_frame p frame = (0 < p.tm_length) × (length frame ≡ p.tm_length)
 
--- the frames of a recording, for framers, kinds and engines; texts and counts cite `tm_frames_of`, which says the same
+-- the frames of a recording, by the managed parameters, as framers, kinds and `engine_frames` have it; clauses of
+-- calls, texts and counts cite `tm_frames_of`, which takes no more of them than it needs
 abbrev pub tm_frames : Parameters → List ℕ → List (List ℕ)
 tm_frames p recording = tm_frames_of p.tm_length recording
 

@@ -16,7 +16,7 @@ use Rattle.sl_link.specs.Kind.Delivery.{IsWithin, Kind, MayRefuseStoreMemory, co
 use Rattle.sl_link.specs.Link.Managed.{Parameters, reception_of, tc_format}
 use Rattle.sl_link.specs.Link.Totals.{Counts}
 use Rattle.sl_link.specs.Framing.Tc.{tc_frames}
-use Rattle.sl_link.specs.Tally.{listing_counts}
+use Rattle.sl_link.specs.Tally.{recording_counts}
 
 -- a frame of a recording, as it is read
 abbrev pub as_read : Parameters → List ℕ → Result TcView TcSkip
@@ -96,7 +96,7 @@ tc_counts_in p = counts_in (tc_kind p)
 
 -- what is counted in a recording
 abbrev pub tc_counts : Parameters → List ℕ → Counts
-tc_counts p = listing_counts (tc_counts_in p) (tc_frames_of (tc_format p))
+tc_counts p = recording_counts (tc_counts_in p) (tc_frames_of (tc_format p))
 
 -- a series is incomplete before or after the last of these frames, on the MAP of its unit, which is accepted: there
 -- `check` and `packets` may be refused memory

@@ -11,7 +11,7 @@ use Rattle.sl_link.specs.Kind.Delivery.{IsWithin, Kind, MayRefuseStoreMemory, co
 use Rattle.sl_link.specs.Link.Managed.{Parameters, tm_format}
 use Rattle.sl_link.specs.Link.Totals.{Counts}
 use Rattle.sl_link.specs.Framing.Tm.{tm_frames}
-use Rattle.sl_link.specs.Tally.{listing_counts}
+use Rattle.sl_link.specs.Tally.{recording_counts}
 
 -- a frame of a recording, as it is read
 abbrev pub as_read : Parameters → List ℕ → Result TmView TmSkip
@@ -85,7 +85,7 @@ tm_counts_in p = counts_in (tm_kind p)
 
 -- what is counted in a recording
 abbrev pub tm_counts : Parameters → List ℕ → Counts
-tm_counts p = listing_counts (tm_counts_in p) (tm_frames_of p.tm_length)
+tm_counts p = recording_counts (tm_counts_in p) (tm_frames_of p.tm_length)
 
 -- a packet is incomplete before or after the last of these frames, on its virtual channel: there `check` and `packets`
 -- may be refused memory

@@ -8,7 +8,7 @@ use Rattle.sl_link.specs.declared.link.fault.LinkFault.TheVariants.{Memory}
 use Rattle.sl_link.specs.Io.Streams.{ReadsAll}
 use Rattle.sl_link.specs.Kind.Delivery.{AddsByChannel, AreStored, Kind, counts_in, packets_by_channel}
 use Rattle.sl_link.specs.Link.Totals.{Counts}
-use Rattle.sl_link.specs.Tally.{listing_counts}
+use Rattle.sl_link.specs.Tally.{recording_counts}
 
 -- the normal form of a recording's packets
 abbrev pub form_text : Kind → (List (List (List ℕ)) → List ℕ) → List ℕ → List ℕ
@@ -31,7 +31,7 @@ pub record StoresAll {R : Type 0} (remaining : R → Option (List ℕ)) (reader 
   pub all : ReadsAll remaining reader reader' limit octets
   pub adds : AddsByChannel k
   pub stored : AreStored k (k.frames_of octets) lists
-  pub counts : totals ≡ listing_counts (counts_in k) k.frames_of octets
+  pub counts : totals ≡ recording_counts (counts_in k) k.frames_of octets
 
 -- memory was refused, where `at_memory` holds
 abbrev pub IsMemoryRefused : Type 0 → LinkFault → Type 0

@@ -6,7 +6,7 @@ use Rattle.sl_link.specs.declared.link.fault.LinkFault.TheVariants.{Memory}
 use Rattle.sl_link.specs.Io.Streams.{Stops, Translates, TranslatesWithTotals}
 use Rattle.sl_link.specs.Link.Totals.{Counts}
 use Rattle.sl_link.specs.Framing.{MayRefuseMemoryAtSome}
-use Rattle.sl_link.specs.Tally.{listing_counts, remainder_after}
+use Rattle.sl_link.specs.Tally.{recording_counts, remainder_after}
 
 -- frames, as octets
 abbrev pub Frames : Type 0
@@ -50,7 +50,7 @@ pub record EndsListing {R W : Type 0} (remaining : R → Option (List ℕ)) (con
   pub listing : OnOk result
       (Translates remaining contents reader reader' writer writer' (listing_text frames_of l) limit)
   pub totals : IfOk result (TranslatesWithTotals remaining contents reader reader' writer writer'
-      (listing_text frames_of l) (listing_counts l.counts frames_of) limit)
+      (listing_text frames_of l) (recording_counts l.counts frames_of) limit)
   pub fault : IfErr result
       (Stops remaining contents reader reader' writer writer' (listing_text frames_of l) limit past)
   pub memory : IfErr result

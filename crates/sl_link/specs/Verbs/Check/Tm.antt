@@ -9,7 +9,7 @@ use Rattle.sl_link.specs.Kind.Tm.{TmFinding, tm_found, tm_kind}
 use Rattle.sl_link.specs.Io.Words.{line_at, tm_skip_word}
 use Rattle.sl_link.specs.Link.Managed.{Parameters, tm_format}
 use Rattle.sl_link.specs.Link.Totals.{Counts}
-use Rattle.sl_link.specs.Tally.{listing_counts}
+use Rattle.sl_link.specs.Tally.{recording_counts}
 use Rattle.sl_link.specs.Verbs.Listing.{Listing, listing_text}
 
 -- ---- a frame
@@ -55,4 +55,4 @@ check_tm_text p = listing_text (tm_frames_of p.tm_length) (check_tm_listing p)
 
 -- what is counted in a recording
 abbrev pub check_tm_counts : Parameters → List ℕ → Counts
-check_tm_counts p = listing_counts (check_tm_listing p).counts (tm_frames_of p.tm_length)
+check_tm_counts p = recording_counts (check_tm_listing p).counts (tm_frames_of p.tm_length)

@@ -17,7 +17,7 @@ use Rattle.sl_link.specs.Io.Words.{line_at, tc_skip_word, verdict_word}
 use Rattle.sl_link.specs.Link.Managed.{Parameters, reception_of, tc_format}
 use Rattle.sl_link.specs.Link.Totals.{Counts}
 use Rattle.sl_link.specs.Verbs.Show.Shown.{show_listing}
-use Rattle.sl_link.specs.Tally.{listing_counts}
+use Rattle.sl_link.specs.Tally.{recording_counts}
 use Rattle.sl_link.specs.Verbs.Listing.{Listing, listing_text}
 
 -- the sequence flags of a segment
@@ -86,4 +86,4 @@ show_tc_text p = listing_text (tc_frames_of (tc_format p)) (show_tc_listing p)
 
 -- what is counted in a recording
 abbrev pub show_tc_counts : Parameters → List ℕ → Counts
-show_tc_counts p = listing_counts (show_tc_listing p).counts (tc_frames_of (tc_format p))
+show_tc_counts p = recording_counts (show_tc_listing p).counts (tc_frames_of (tc_format p))

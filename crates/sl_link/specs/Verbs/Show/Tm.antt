@@ -11,7 +11,7 @@ use Rattle.sl_link.specs.Io.Words.{line_at, tm_skip_word}
 use Rattle.sl_link.specs.Link.Managed.{Parameters, tm_format}
 use Rattle.sl_link.specs.Link.Totals.{Counts}
 use Rattle.sl_link.specs.Verbs.Show.Shown.{show_listing}
-use Rattle.sl_link.specs.Tally.{listing_counts}
+use Rattle.sl_link.specs.Tally.{recording_counts}
 use Rattle.sl_link.specs.Verbs.Listing.{Listing, listing_text}
 
 -- what a frame carries
@@ -79,4 +79,4 @@ show_tm_text p = listing_text (tm_frames_of p.tm_length) (show_tm_listing p)
 
 -- what is counted in a recording
 abbrev pub show_tm_counts : Parameters → List ℕ → Counts
-show_tm_counts p = listing_counts (show_tm_listing p).counts (tm_frames_of p.tm_length)
+show_tm_counts p = recording_counts (show_tm_listing p).counts (tm_frames_of p.tm_length)

@@ -119,6 +119,7 @@ impl Checked for Receiver {
             vc: u32::from(vc),
             map: Some(u32::from(map)),
         };
+        // A series may have no octet, so `held` doesn't say whether one is incomplete.
         let octets = self.held(vc, map);
         event_lines(lines, at, b" open", self.is_open(vc, map), Some(octets))
     }

@@ -12,7 +12,8 @@ use crate::io::words::push_remainder;
 use crate::link::totals::Totals;
 
 /// Where an anomaly is: at a frame, or for `open` at the recording's end; on a virtual channel, and
-/// in a TC recording on a MAP. Both are `u32` as octets are: `push_some` adds a MAP or octets.
+/// in a TC recording on a MAP, which is a `u32` as a number of octets is, since `push_some` adds
+/// either. The virtual channel is one too, as both go the same way.
 #[derive(Clone, Copy)]
 pub struct AnomalyPlace {
     pub offset: u64,

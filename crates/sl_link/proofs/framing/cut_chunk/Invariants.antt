@@ -1,6 +1,6 @@
 use Rattle.std.proofs.Common.{ℕ, List, length}
 use Rattle.sl_link.specs.Framing.{HasCutFrames}
-use Rattle.sl_link.proofs.framing.deliver_chunk.Given as goal
+use Rattle.sl_link.proofs.framing.cut_chunk.Given as goal
 
 abbrev pub invariant-loop-frame : goal.invariant-loop-frame
 invariant-loop-frame g l =

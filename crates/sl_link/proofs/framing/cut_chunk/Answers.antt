@@ -2,7 +2,7 @@ use Rattle.std.proofs.Common.{[]}
 use Rattle.std.proofs.lemmas.Result.{MatchResult-weaker, on_ok_weaker}
 use Rattle.sl_link.proofs.lemmas.Link.Answers.{passed_up}
 use Rattle.sl_link.proofs.lemmas.Framing.Reading.{fits_next, taken_next, taken_so_far, taken_all}
-use Rattle.sl_link.proofs.framing.deliver_chunk.Goals as goal
+use Rattle.sl_link.proofs.framing.cut_chunk.Goals as goal
 
 pub next_frame-requires : goal.next_frame-requires
 next_frame-requires g c =

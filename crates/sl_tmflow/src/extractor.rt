@@ -99,8 +99,9 @@ impl Extractor {
             → IsFailed self.old × (self.new ≡ self.old) × (sink.new ≡ sink.old) }
 
         // At a fault of this call the sink has accepted the packets up to a point. `IsStopped` says
-        // up to which one, for `Memory` and for `Sink`. The sink's count of refused packets rises
-        // exactly where the fault is `Sink`, unless the count is at its greatest.
+        // up to which one, for `Memory` and for `Sink`. Whatever was processed before, the sink's
+        // count of refused packets rises exactly where the fault is `Sink`, unless the count is at
+        // its greatest.
         ensures stopped { IfErr result (λ flow. flow ≢ FlowFault.Failed → IsFailed self.new
             × ForProcessed self.old (λ views.
             IsStopped S.taking S.failing S.failures sink.old frame.now.vc
@@ -115,8 +116,6 @@ impl Extractor {
         if self.has_failed {
             return Err(FlowFault::Failed);
         }
-        // `match` and not `?`: `?` converts the fault, and each clause that says which fault it is
-        // would then have to be proved by hand.
         match self.channels[usize::from(frame.vc())].take_frame(frame, sink) {
             Ok(report) => Ok(report),
             Err(flow) => {

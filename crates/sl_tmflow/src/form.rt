@@ -175,24 +175,36 @@ impl<'d> TmForm<'d> {
         ensures capacity { vec_capacity form.old ≤ vec_capacity form.new }
     {
         loop {
-            let (shape, heading, start) = (self.shape, self.heading, self.start);
             if let Some((packet, later)) = self.packets.split_first() {
                 // With this memory reserved, adding isn't refused any. The same holds below.
                 reserve_piece(&mut self.octets, form)?;
                 let packet = packet.as_slice();
-                let frames = add_packet(form, &mut self.octets, &shape, heading, start, packet)?;
+                let frames = add_packet(
+                    form,
+                    &mut self.octets,
+                    &self.shape,
+                    self.heading,
+                    self.start,
+                    packet,
+                )?;
                 self.packets = later;
-                self.heading = heading.after(frames);
+                self.heading = self.heading.after(frames);
                 if frames > 0 {
                     self.start = self.octets.len() as u16;
                     return Ok(true);
                 }
             } else if !self.octets.is_empty() {
                 reserve_piece(&mut self.octets, form)?;
-                let frames = add_filling(form, &mut self.octets, &shape, heading, start)?;
-                self.heading = heading.after(frames);
+                let frames = add_filling(
+                    form,
+                    &mut self.octets,
+                    &self.shape,
+                    self.heading,
+                    self.start,
+                )?;
+                self.heading = self.heading.after(frames);
                 return Ok(true);
-            } else if heading.vc < 7 {
+            } else if self.heading.vc < 7 {
                 self.heading.vc += 1;
                 self.heading.vc_count = 0;
                 self.packets = self.delivered.list(u16::from(self.heading.vc));
@@ -267,6 +279,7 @@ fn add_packet(
     };
     let pushed = push_fields(form, shape, heading, &whole);
     // Cleared at a refusal too, so that fewer octets than a data field has are kept (clause `few`).
+    // None comes in `TmForm::next`, which has reserved the memory.
     octets.clear();
     pushed?;
     let later = PacketOctets {
@@ -316,6 +329,7 @@ fn add_filling(
     };
     let pushed = push_fields(form, shape, heading, &whole);
     // Cleared at a refusal too, so that fewer octets than a data field has are kept (clause `few`).
+    // None comes in `TmForm::next`, which has reserved the memory.
     octets.clear();
     pushed?;
     Ok(frames)

@@ -1,8 +1,9 @@
 //! How packets are handed to a sink and counted in a report.
 ghost use Rattle.std.specs.Prelude.{◌≡◌, ◌≢◌, ◌≤◌, ◌+◌, ◌∷◌, [], length, IfOk, IfErr};
-ghost use Rattle.sl_packet.specs.Packet.{IsPacket, longest_packet};
+ghost use Rattle.sl_packet.specs.Packet.{IsPacket};
 ghost use Rattle.sl_packet.specs.Packets.{packets_of, rest_of};
 ghost use Rattle.sl_packet.specs.Stopping.{HandsOver};
+ghost use Rattle.sl_tmframe.specs.TmFrame.{longest_field};
 ghost use Rattle.sl_tmflow.specs.StepReport.{counts_of};
 
 use crate::report::{EMPTY_STEP, TmStep};
@@ -51,7 +52,7 @@ pub(crate) fn hand<'a, S: PacketSink>(
     octets: &'a [u8],
 ) -> Result<(TmStep, &'a [u8]), FlowFault>
     requires vc { vc ≤ 7 }
-    requires short { length octets.now ≤ longest_packet }
+    requires short { length octets.now ≤ longest_field }
     // The packets at the front are handed over, and the octets after them are given back. No memory
     // is refused.
     ensures hands_over { HandsOver S.taking S.failing S.failures (λ handed. counts_of handed.0)

@@ -4,12 +4,15 @@
 //! A packet is found by its start in a frame and by the run of later frames up to the one in which
 //! it ends ([`laws`]). The normal form is this project's own: the delivered packets, written into
 //! new frames in one fixed way.
+//!
+//! The format of the frames, which is their length and whether they have an error control field, is
+//! a [`TmShape`](sl_tmframe::TmShape); clauses call its value a `TmFormat`.
 #![tactic(auto)]
 
 // From the bottom: `packet_octets`, `report`, `hand_over`, `progress`, `channel` and `extractor`
-// take packets out of frames; `form` and `reframe` write frames. A `pub fn` of these modules is
-// public only in `laws`, or if it or its type stands in a `pub use` below; specs call the others
-// private.
+// take packets out of frames; `form` and `reframe` write frames, with `packet_octets`. A `pub fn`
+// of these modules is public only in `laws`, or if it or its type stands in a `pub use` below;
+// specs call the others private.
 mod channel;
 mod extractor;
 mod form;

@@ -105,17 +105,17 @@ loop-packet-preserved c =
     let before = rw (no_more at.In_default, nothing at.Else-not-is_empty) at i.left in
     let are = c.list-self-inside.ensures.packets ∙ ap (λ n. slice_index_or f.delivered.now.lists n []) c.from.ensures in
     record {
-      left = rw (nothing at.Else-not-is_empty) (sym (next_comes f.shape f.heading f.start f.delivered.now.lists (map vec_items c.list-self-inside.result.now) c.if-heading-lt7.true (omega (arith, c.list-self-inside.ensures.channels)) are) ∙ before);
+      left = rw (nothing at.Else-not-is_empty) (sym (next_comes f.shape f.heading f.start f.delivered.now.lists (map vec_items c.list-self-inside.result.now) c.if-self-lt7.true (omega (arith, c.list-self-inside.ensures.channels)) are) ∙ before);
       form = i.form;
       keeps = i.keeps;
       capacity = i.capacity;
       is = search rules;
     }
 
-pub returns-else-heading-lt7-clause-end : goal.returns-else-heading-lt7-clause-end
-returns-else-heading-lt7-clause-end c = λ _.
+pub returns-else-self-lt7-clause-end : goal.returns-else-self-lt7-clause-end
+returns-else-self-lt7-clause-end c = λ _.
     let f = c.loop-packet.self-inside in
     let i = c.loop-packet.invariant in
-    let at = goal.at.returns-else-heading-lt7-clause-end c in
-    let end = sym (rw (no_more at.In_default, nothing at.Else-not-is_empty) at i.left) ∙ none_comes f.shape f.heading f.start f.delivered.now.lists (omega (arith, c.if-heading-lt7.false)) in
+    let at = goal.at.returns-else-self-lt7-clause-end c in
+    let end = sym (rw (no_more at.In_default, nothing at.Else-not-is_empty) at i.left) ∙ none_comes f.shape f.heading f.start f.delivered.now.lists (omega (arith, c.if-self-lt7.false)) in
     (end, i.left ∙ end, i.form)

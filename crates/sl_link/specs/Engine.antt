@@ -74,7 +74,8 @@ module _ {R W : Type 0} (remaining : R → Option (List ℕ)) (contents : W → 
 
   -- A fault stopped the engine. A listing of frames needs no memory. A normal form is written once all is read: at
   -- `Write` all was read, and at any other fault nothing is written. (The program's `run` has this record in its
-  -- contract too. It flushes the writer after the engine, and a flush that fails counts as `Write`.)
+  -- contract too, which has no clause `memory`. It flushes the writer after the engine, and a flush that fails counts
+  -- as `Write`.)
   pub record IsStoppedBy (reader reader' : Counted R) (writer writer' : Counted W) (engine : Engine)
       (managed : Parameters) (fault : LinkFault) : Type 0 where
     pub cause : Stops remaining contents reader reader' writer writer'

@@ -228,7 +228,9 @@ fn normalise<D: Formed, F: Framer, R: Read, W: Write>(
     Ok(totals)
 }
 
-/// Reads a recording to its end, and stores the packets that its frames deliver.
+/// Reads a recording to its end, and stores the packets that its frames deliver. The framer is
+/// handed in, as the calls that make one differ between the kinds; `fits` and `frames` say that it
+/// is of the deliverer's kind.
 pub fn store_packets<D: Deliverer, F: Framer, R: Read>(
     alloc: Global,
     managed: &Managed,

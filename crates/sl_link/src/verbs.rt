@@ -143,7 +143,8 @@ fn list_into<F: Framer, V: Verb, R: Read, W: Write>(
     Ok(totals)
 }
 
-/// Reads a recording to its end, and writes the listing of it.
+/// Reads a recording to its end, and writes the listing of it. `buffer` is for what is read at
+/// once; the contract holds of any length but 0.
 pub fn list<F: Framer, V: Verb, R: Read, W: Write>(
     managed: &Managed,
     framer: &mut F,

@@ -20,7 +20,7 @@ pub const FRAME_ROOM: usize = 1024;
 pub struct Lines {
     // All `LINES_SIZE` octets are always there, and the lines are the first `len` of them. So
     // `clear` sets `len` alone; that of an `ArrayVec` overwrites what it has. A plain array would
-    // do too.
+    // do too. An `ArrayVec` is taken as in the framers.
     text: ArrayVec<u8, LINES_SIZE>,
     len: usize,
     decimals: Decimals,

@@ -40,14 +40,14 @@ discarded_anomaly offset found (Some ns) =
 -- frame; a segment is out of sequence; an incomplete series is dropped, by how many octets of it had
 -- come; a series is given up, since it is too long; octets are left after the last packet of a service
 -- data unit. What is found of a frame never gives all five: a frame that is discarded has no other line.
-abbrev pub check_tc_lines : ℕ → Result TcFinding TcSkip → List (List ℕ)
-check_tc_lines offset (Ok found) =
+abbrev pub tc_anomaly_lines : ℕ → Result TcFinding TcSkip → List (List ℕ)
+tc_anomaly_lines offset (Ok found) =
     (if discards found.verdict then discarded_anomaly offset found found.ns else [])
     ++ event_anomaly offset found.vc (Some found.map) (codes " stray") found.stray None
     ++ event_anomaly offset found.vc (Some found.map) (codes " dropped") (is_some found.dropped) found.dropped
     ++ event_anomaly offset found.vc (Some found.map) (codes " long") found.long None
     ++ event_anomaly offset found.vc (Some found.map) (codes " tail") (nat_lt 0 found.tail) (Some found.tail)
-check_tc_lines offset (Err reason) = line_at offset (codes " skip " ++ tc_skip_word reason) ∷ []
+tc_anomaly_lines offset (Err reason) = line_at offset (codes " skip " ++ tc_skip_word reason) ∷ []
 
 -- a frame has no line, by what is found of it. The contract of a private function alone cites this.
 abbrev pub is_quiet : TcFinding → Bool
@@ -59,7 +59,7 @@ is_quiet found =
 
 -- the lines of a frame that comes after `before`
 abbrev pub tc_anomalies_after : Parameters → List (List ℕ) → List ℕ → List (List ℕ)
-tc_anomalies_after p = anomalies_by check_tc_lines (tc_found p)
+tc_anomalies_after p = anomalies_by tc_anomaly_lines (tc_found p)
 
 -- a series that is incomplete after the last frame, with the octets so far, if one is
 abbrev pub incomplete_anomaly : ℕ → ℕ → ℕ → Option (List ℕ) → List (List ℕ)

@@ -24,19 +24,19 @@ gap_anomaly offset found (Some expected) =
 -- The lines of a frame at this offset, in their order, by what is found of it: a gap; an incomplete
 -- packet is broken off, by how many octets of it had come; the frame is opaque; octets of another
 -- packet version stand at a packet start.
-abbrev pub check_tm_lines : ℕ → Result TmFinding TmSkip → List (List ℕ)
-check_tm_lines offset (Ok found) =
+abbrev pub tm_anomaly_lines : ℕ → Result TmFinding TmSkip → List (List ℕ)
+tm_anomaly_lines offset (Ok found) =
     gap_anomaly offset found found.gap
     ++ event_anomaly offset found.vc None (codes " dropped") (nat_lt 0 found.dropped) (Some found.dropped)
     ++ event_anomaly offset found.vc None (codes " opaque") found.opaque None
     ++ event_anomaly offset found.vc None (codes " foreign") found.foreign None
-check_tm_lines offset (Err reason) = line_at offset (codes " skip " ++ tm_skip_word reason) ∷ []
+tm_anomaly_lines offset (Err reason) = line_at offset (codes " skip " ++ tm_skip_word reason) ∷ []
 
 -- ---- a recording
 
 -- the lines of a frame that comes after `before`
 abbrev pub tm_anomalies_after : Parameters → List (List ℕ) → List ℕ → List (List ℕ)
-tm_anomalies_after p = anomalies_by check_tm_lines (tm_found p)
+tm_anomalies_after p = anomalies_by tm_anomaly_lines (tm_found p)
 
 -- the line of the packet that is incomplete after the last frame of a virtual channel, if one is: here
 -- `incomplete_of`, of `sl_tmflow`, is a list of one packet or none

@@ -24,15 +24,15 @@ tc_channel_name channel = tc_channel_text (channel / 64) (channel % 64)
 
 -- the lines of the packets that a frame delivers, as it is read, after the frames `views`: those of
 -- the series that its unit ends
-abbrev pub tc_packet_lines : ReceptionParameters → List TcView → Result TcView TcSkip → List ℕ
-tc_packet_lines r views (Ok view) =
+abbrev pub tc_packet_lines_after : ReceptionParameters → List TcView → Result TcView TcSkip → List ℕ
+tc_packet_lines_after r views (Ok view) =
     concat (map (packet_line (tc_channel_text view.vc (unit_map r view))) (without_idle (ended_by r views view)))
-tc_packet_lines r views (Err reason) = []
+tc_packet_lines_after r views (Err reason) = []
 
 -- the same of a frame that comes after `before`
 abbrev pub packets_tc_lines : Parameters → List (List ℕ) → List ℕ → List ℕ
 packets_tc_lines p before frame =
-    tc_packet_lines (reception_of p) (views_of (tc_format p) p.spacecraft before) (as_read p frame)
+    tc_packet_lines_after (reception_of p) (views_of (tc_format p) p.spacecraft before) (as_read p frame)
 
 -- the listing: the lines of the packets that end with each frame's unit
 abbrev pub packets_tc_listing : Parameters → Listing

@@ -18,14 +18,14 @@ abbrev pub tm_channel_name : ℕ → List ℕ
 tm_channel_name vc = codes "vc " ++ decimal vc
 
 -- the lines of the packets that end in a frame, as it is read, after the frames `views`
-abbrev pub tm_packet_lines : List TmView → Result TmView TmSkip → List ℕ
-tm_packet_lines views (Ok view) =
+abbrev pub tm_packet_lines_after : List TmView → Result TmView TmSkip → List ℕ
+tm_packet_lines_after views (Ok view) =
     concat (map (packet_line (tm_channel_name view.vc)) (without_idle (ended_by views view)))
-tm_packet_lines views (Err reason) = []
+tm_packet_lines_after views (Err reason) = []
 
 -- the same of a frame that comes after `before`
 abbrev pub packets_tm_lines : Parameters → List (List ℕ) → List ℕ → List ℕ
-packets_tm_lines p before frame = tm_packet_lines (views_of (tm_format p) p.spacecraft before) (as_read p frame)
+packets_tm_lines p before frame = tm_packet_lines_after (views_of (tm_format p) p.spacecraft before) (as_read p frame)
 
 -- the listing: the lines of the packets that end in each frame
 abbrev pub packets_tm_listing : Parameters → Listing

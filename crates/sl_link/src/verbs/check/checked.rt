@@ -65,9 +65,9 @@ pub trait Checked: Deliverer {
 }
 
 impl Checked for Extractor {
-    ghost use Rattle.sl_link.specs.Verbs.Check.Tm.{check_tm_lines, tm_open};
+    ghost use Rattle.sl_link.specs.Verbs.Check.Tm.{tm_anomaly_lines, tm_open};
 
-    ghost lines_of = { check_tm_lines };
+    ghost lines_of = { tm_anomaly_lines };
 
     ghost open_at = { tm_open };
 
@@ -94,9 +94,9 @@ impl Checked for Extractor {
 
 impl Checked for Receiver {
     ghost use Rattle.sl_packet.specs.Delivered.{channel_count};
-    ghost use Rattle.sl_link.specs.Verbs.Check.Tc.{check_tc_lines, tc_open};
+    ghost use Rattle.sl_link.specs.Verbs.Check.Tc.{tc_anomaly_lines, tc_open};
 
-    ghost lines_of = { check_tc_lines };
+    ghost lines_of = { tc_anomaly_lines };
 
     ghost open_at = { tc_open };
 

@@ -12,8 +12,8 @@ use crate::io::words::push_remainder;
 use crate::link::totals::Totals;
 
 /// Where an anomaly is: at a frame, or for `open` at the recording's end; on a virtual channel, and
-/// in a TC recording on a MAP, which is a `u32` as a number of octets is, since `push_some` adds
-/// either. The virtual channel is one too, as both go the same way.
+/// in a TC recording on a MAP. Both have the widest type that comes: a virtual channel may be the
+/// `u16` of a channel, and `push_some` adds a MAP or a number of octets.
 #[derive(Clone, Copy)]
 pub struct AnomalyPlace {
     pub offset: u64,

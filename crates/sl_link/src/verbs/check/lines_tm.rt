@@ -3,7 +3,7 @@ ghost use Rattle.std.specs.Prelude.{◌≡◌, ◌++◌, length, Ok};
 ghost use Rattle.std.specs.List.{concat};
 ghost use Rattle.sl_link.specs.Io.Lines.{HasRoom, HasRoomFor, line_width};
 ghost use Rattle.sl_link.specs.Verbs.Check.Checking.{AddsAnomalies};
-ghost use Rattle.sl_link.specs.Verbs.Check.Tm.{gap_anomaly, check_tm_lines};
+ghost use Rattle.sl_link.specs.Verbs.Check.Tm.{gap_anomaly, tm_anomaly_lines};
 
 use crate::io::lines::Lines;
 use crate::io::words::push_tm_skip;
@@ -15,8 +15,8 @@ use sl_tmframe::TmSkip;
 #[inline(always)]
 pub fn tm_anomaly_lines(lines: &mut Lines, offset: u64, found: Result<TmFound, TmSkip>) -> u64
     requires { HasRoom lines.old }
-    ensures text { lines.new ≡ lines.old ++ concat (check_tm_lines offset found) }
-    ensures number { result ≡ length (check_tm_lines offset found) }
+    ensures text { lines.new ≡ lines.old ++ concat (tm_anomaly_lines offset found) }
+    ensures number { result ≡ length (tm_anomaly_lines offset found) }
 {
     match found {
         Ok(found) => tm_found_lines(lines, offset, &found),
@@ -33,8 +33,8 @@ pub fn tm_anomaly_lines(lines: &mut Lines, offset: u64, found: Result<TmFound, T
 #[inline(always)]
 fn tm_found_lines(lines: &mut Lines, offset: u64, found: &TmFound) -> u64
     requires { HasRoom lines.old }
-    ensures text { lines.new ≡ lines.old ++ concat (check_tm_lines offset (Ok found.now)) }
-    ensures number { result ≡ length (check_tm_lines offset (Ok found.now)) }
+    ensures text { lines.new ≡ lines.old ++ concat (tm_anomaly_lines offset (Ok found.now)) }
+    ensures number { result ≡ length (tm_anomaly_lines offset (Ok found.now)) }
 {
     let at = AnomalyPlace {
         offset,

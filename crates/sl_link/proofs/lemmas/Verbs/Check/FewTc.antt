@@ -9,7 +9,7 @@ use Rattle.sl_tcframe.specs.TcFrame.{TcView, content_of, read_as}
 use Rattle.sl_tcflow.specs.AcceptedUnit.{views_of}
 use Rattle.sl_tcflow.proofs.lemmas.Reception.Channel.{incomplete_other}
 use Rattle.sl_link.specs.Verbs.Check.Lines.{event_anomaly}
-use Rattle.sl_link.specs.Verbs.Check.Tc.{discarded_anomaly, incomplete_anomaly, open_on, check_tc_lines, tc_open}
+use Rattle.sl_link.specs.Verbs.Check.Tc.{discarded_anomaly, incomplete_anomaly, open_on, tc_anomaly_lines, tc_open}
 use Rattle.sl_link.specs.Kind.Tc.{TcFinding, as_read, unit_channel_of, found_after, tc_found, tc_kind}
 use Rattle.sl_link.specs.Kind.Delivery.{with_frame}
 use Rattle.sl_link.specs.Link.Managed.{Parameters, reception_of, tc_format}
@@ -24,7 +24,7 @@ use Rattle.sl_link.proofs.lemmas.Verbs.Check.Lines as few
 one_discarded : (offset : ℕ) (found : TcFinding) (ns : Option ℕ) (holds : Bool) → length (if holds then discarded_anomaly offset found ns else []) ≤ 1
 one_discarded offset found ns holds = grind arith
 
-five_lines : (offset : ℕ) (found : Result TcFinding TcSkip) → length (check_tc_lines offset found) ≤ 5
+five_lines : (offset : ℕ) (found : Result TcFinding TcSkip) → length (tc_anomaly_lines offset found) ≤ 5
 five_lines offset found = grind (arith, length-append)
 
 -- a frame that is read has a data field
@@ -32,12 +32,12 @@ some_field : (early : Option TcSkip) (h : TcFields) (field : List ℕ) (view : T
 some_field early h field view read = grind arith
 
 few_by : (p : Parameters) (frame : List ℕ) (offset : ℕ) (views : List TcView) (read : Result TcView TcSkip) → as_read p frame ≡ read → 5 ≤ length frame
-    → length (check_tc_lines offset (found_after (reception_of p) views read)) < length frame
+    → length (tc_anomaly_lines offset (found_after (reception_of p) views read)) < length frame
 few_by p frame offset views read is long = grind (arith, five_lines, length-take, some_field)
 
 -- a frame has fewer lines than octets
 pub few_lines : (offset : ℕ) (p : Parameters) (before : List (List ℕ)) (frame : List ℕ) → is_tc_frame p frame → 5 ≤ length frame
-    → length (check_tc_lines offset (tc_found p before frame)) < length frame
+    → length (tc_anomaly_lines offset (tc_found p before frame)) < length frame
 few_lines offset p before frame whole long = few_by p frame offset (views_of (tc_format p) p.spacecraft before) (as_read p frame) refl long
 
 -- ---- the series that are incomplete

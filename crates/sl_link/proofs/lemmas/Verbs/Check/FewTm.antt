@@ -16,7 +16,7 @@ use Rattle.sl_link.specs.Kind.Tm.{TmFinding, as_read, tm_found, tm_kind, vc_of}
 use Rattle.sl_link.specs.Link.Managed.{Parameters, tm_format}
 use Rattle.sl_link.specs.Framing.Tm.{is_tm_frame}
 use Rattle.sl_link.specs.Verbs.Check.Lines.{event_anomaly, event_line}
-use Rattle.sl_link.specs.Verbs.Check.Tm.{gap_anomaly, check_tm_lines, tm_open}
+use Rattle.sl_link.specs.Verbs.Check.Tm.{gap_anomaly, tm_anomaly_lines, tm_open}
 use Rattle.sl_link.proofs.lemmas.Kind.Delivery.{views_next}
 use Rattle.sl_link.proofs.lemmas.Kind.Tm.{tm_adds_by_channel}
 use Rattle.sl_link.proofs.lemmas.Verbs.Check.Lines.{one_event}
@@ -25,12 +25,12 @@ use Rattle.sl_link.proofs.lemmas.Verbs.Check.Lines as few
 one_gap : (offset : ℕ) (found : TmFinding) (gap : Option ℕ) → length (gap_anomaly offset found gap) ≤ 1
 one_gap offset found gap = grind arith
 
-four_lines : (offset : ℕ) (found : Result TmFinding TmSkip) → length (check_tm_lines offset found) ≤ 4
+four_lines : (offset : ℕ) (found : Result TmFinding TmSkip) → length (tm_anomaly_lines offset found) ≤ 4
 four_lines offset found = grind (arith, length-append)
 
 -- a frame has fewer lines than octets
 pub few_lines : (offset : ℕ) (p : Parameters) (before : List (List ℕ)) (frame : List ℕ) → is_tm_frame p frame → 5 ≤ length frame
-    → length (check_tm_lines offset (tm_found p before frame)) < length frame
+    → length (tm_anomaly_lines offset (tm_found p before frame)) < length frame
 few_lines offset p before frame whole long = omega (arith, long, four_lines offset (tm_found p before frame))
 
 -- ---- the packets that are incomplete

@@ -27,8 +27,8 @@ use Rattle.sl_link.specs.Kind.Tm as tm_deliver
 use Rattle.sl_link.specs.Kind.Tc.{unit_channel_of, tc_kind}
 use Rattle.sl_link.specs.Kind.Tm.{tm_kind, vc_of}
 use Rattle.sl_link.specs.Link.Managed.{Parameters, reception_of, tc_format, tm_format}
-use Rattle.sl_link.specs.Verbs.Packets.Tc.{packets_tc_lines, tc_packet_lines}
-use Rattle.sl_link.specs.Verbs.Packets.Tm.{packets_tm_lines, tm_packet_lines}
+use Rattle.sl_link.specs.Verbs.Packets.Tc.{packets_tc_lines, tc_packet_lines_after}
+use Rattle.sl_link.specs.Verbs.Packets.Tm.{packets_tm_lines, tm_packet_lines_after}
 use Rattle.sl_link.specs.Verbs.Packets.Line.{packets_listing}
 use Rattle.sl_link.proofs.lemmas.Kind.Tc.{tc_adds_by_channel}
 use Rattle.sl_link.proofs.lemmas.Kind.Tm.{tm_adds_by_channel}
@@ -108,7 +108,7 @@ module _ (k : Kind) where
 
 -- ---- TM
 
-tm_lines_are : (views : List TmView) (r : Result TmView TmSkip) → tm_packet_lines views r ≡ lines_on VirtualChannel (vc_of r) (without_idle (tm_deliver.ended_in views r))
+tm_lines_are : (views : List TmView) (r : Result TmView TmSkip) → tm_packet_lines_after views r ≡ lines_on VirtualChannel (vc_of r) (without_idle (tm_deliver.ended_in views r))
 tm_lines_are views r = grind arith
 
 pub tm_printed : (p : Parameters) → ArePrinted (tm_kind p) VirtualChannel (packets_tm_lines p)
@@ -120,7 +120,7 @@ tm_packets_are_listed p recording = packets_are_listed (tm_kind p) (tm_adds_by_c
 -- ---- TC
 
 -- the channel of a unit is named by its virtual channel and its MAP
-tc_lines_are : (r : ReceptionParameters) (views : List TcView) (read : Result TcView TcSkip) → tc_packet_lines r views read ≡ lines_on Map (unit_channel_of r read) (without_idle (tc_deliver.ended_in r views read))
+tc_lines_are : (r : ReceptionParameters) (views : List TcView) (read : Result TcView TcSkip) → tc_packet_lines_after r views read ≡ lines_on Map (unit_channel_of r read) (without_idle (tc_deliver.ended_in r views read))
 tc_lines_are r views read = grind (arith, small_map)
 
 pub tc_printed : (p : Parameters) → ArePrinted (tc_kind p) Map (packets_tc_lines p)

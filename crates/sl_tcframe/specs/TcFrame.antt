@@ -167,6 +167,14 @@ early_reason format spacecraft frame =
     else if length (tc_parts_of format frame).field == 0 then Some Empty
     else None
 
+-- The last of these reasons, by the header and the data field: where there is a content, neither holds. Contracts of
+-- private functions alone cite this.
+abbrev pub late_reason : TcFields → List ℕ → Option TcSkip
+late_reason h field =
+    if not h.bypass && h.command then Some Kind
+    else if length field == 0 then Some Empty
+    else None
+
 -- What is read of a frame. The arguments are the first reason other than `Command` to skip it, if
 -- one holds; its header; and the content of its data field, if there is one. Without such a reason
 -- and without a content the frame is skipped for `Command`.

@@ -69,7 +69,7 @@ impl Lines {
     pub fn lacks_room_for_a_frame(&self) -> bool
         ensures { result ≡ nat_lt lines_size (length self.now + frame_room) }
     {
-        self.len + FRAME_ROOM > LINES_SIZE
+        self.len > LINES_SIZE - FRAME_ROOM
     }
 
     /// How many octets more there is room for.

@@ -98,12 +98,13 @@ class TcFrames:
 
     def begin(self, at: int, end: Optional[int] = None) -> Optional[int]:
         """The first place from here on at which frames of these spacecraft lie, or of those that begin within the first
-        one the first whose N(S) is the one that comes next."""
+        one the first whose N(S) is the one that comes next; None where this one isn't before the end."""
         for place in self.places(at, at + SEARCHED if end is None else end):
             if self.goes_on(place):
                 return place
             others = self.places(place + 1, place + len(self.some(place)[0]))
-            return next((other for other in others if self.goes_on(other)), place)
+            found = next((other for other in others if self.goes_on(other)), place)
+            return found if end is None or found < end else None
         return None
 
     def places(self, at: int, end: int) -> Iterator[int]:

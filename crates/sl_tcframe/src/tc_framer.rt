@@ -141,30 +141,17 @@ impl TcFramer {
                 return Some(frame);
             }
         }
-        // `next_across` borrows a copy of the caller's reference to the octets. So the caller's own
+        // `next` is lent a copy of the caller's reference to the octets. So the caller's own
         // reference may stay in a register.
         let mut octets: &'p [u8] = *chunk;
-        let frame = self.next_across(&mut octets);
+        let frame = self.next(&mut octets);
         *chunk = octets;
         frame
-    }
-
-    // As `next`, where `next_from` finds no whole frame in the chunk alone.
-    fn next_across(&mut self, chunk: &mut &[u8]) -> Option<&[u8]>
-        ensures* taken { sem 𝓛 (Rests the_row self.entry
-            (HasTakenTc self.old chunk.old.now result)) }
-        ensures frame { IfSome result (λ frame.
-            YieldsFrame self.old chunk.old.now frame.now chunk.new.now) }
-        ensures cut { IfSome result (λ frame. is_cut self.old.format frame.now ≡ true) }
-        ensures none { IfNone result (YieldsNone self.old chunk.old.now chunk.new.now) }
-        ensures stuck { StaysStuck self.old chunk.old.now result chunk.new.now }
-    {
-        self.next(chunk)
     }
 }
 
 // The whole frame at the front of the octets and the octets after it. `None` where no frame is
-// whole; no clause says so, since the caller then tries `next_across`, which is right in any case.
+// whole; no clause says so, since the caller then tries `next`, which is right in any case.
 #[inline]
 fn split_frame<'p>(shape: &TcShape, octets: &'p [u8]) -> Option<(&'p [u8], &'p [u8])>
     ensures { IfSome result (λ parts.

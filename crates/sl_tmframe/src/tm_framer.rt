@@ -105,8 +105,6 @@ impl TmFramer {
             YieldsFrame self.old chunk.old.now frame.now chunk.new.now) }
         ensures used_up { IfNone result (UsesUpChunk self.old chunk.old.now chunk.new.now) }
     {
-        // A copy of the caller's reference is lent to the cold call, so that the reference itself
-        // may stay in registers.
         let mut octets: &'p [u8] = *chunk;
         let is_between_frames = self.held == 0;
         if is_between_frames {
@@ -115,21 +113,11 @@ impl TmFramer {
                 return Some(frame);
             }
         }
-        let frame = self.next_across(&mut octets);
+        // `next` is lent a copy of the caller's reference to the octets. So the caller's own
+        // reference may stay in a register.
+        let frame = self.next(&mut octets);
         *chunk = octets;
         frame
-    }
-
-    // As `next`, for a frame that lies in several chunks, and for a chunk that ends before a frame
-    // is complete.
-    fn next_across(&mut self, chunk: &mut &[u8]) -> Option<&[u8]>
-        ensures* taken { sem 𝓛 (Rests the_row self.entry
-            (HasTakenTm self.old chunk.old.now result)) }
-        ensures frame { IfSome result (λ frame.
-            YieldsFrame self.old chunk.old.now frame.now chunk.new.now) }
-        ensures used_up { IfNone result (UsesUpChunk self.old chunk.old.now chunk.new.now) }
-    {
-        self.next(chunk)
     }
 }
 

@@ -9,7 +9,7 @@ use Rattle.sl_cop.specs.Farm.{FarmView, farm_start, farm_step}
 use Rattle.sl_cop.proofs.ReorderedLemmas.{state_more}
 use Rattle.sl_tcframe.specs.TcFrame.{TcView}
 use Rattle.sl_tcframe.specs.VcSet.{has_vc}
-use Rattle.sl_tcflow.specs.AcceptedUnit.{views_on, event_of, farm_after}
+use Rattle.sl_tcflow.specs.AcceptedUnit.{event_of, farm_after}
 use Rattle.sl_tcflow.specs.Farms.{HaveStepped, farm_of, verdict_on}
 use Rattle.sl_tcflow.specs.Receiver.{ForIncomplete, ForProcessed, HasProcessed, ReceiverState}
 use Rattle.sl_tcflow.specs.ReceptionParameters.{ReceptionParameters, is_plain, initial_vr}

@@ -1,4 +1,4 @@
-use Rattle.std.proofs.Common.{◌-◌, ◌∙◌, List, length, take, drop, sym, ap, ℕ, Err}
+use Rattle.std.proofs.Common.{◌-◌, ◌∙◌, List, length, take, drop, ap, ℕ, Err}
 use Rattle.sl_fields.specs.FecfField.{fecf_len}
 use Rattle.sl_tcframe.specs.declared.tc_frame.TcSkip.{TcSkip}
 use Rattle.sl_tcframe.specs.TcContent.{content}

@@ -46,7 +46,7 @@ pub record FitFrame (format : TmFormat) (spacecraft vc mc vcc : ℕ) (first : Op
   pub points_inside : IfSome first (λ offset. offset < field_room_of format)
   pub fills : length field ≡ field_room_of format
 
--- the view that a reader has of the frame
+-- the view that a reader has of the frame: its content is packets, in these octets `field`
 abbrev pub packet_view : ℕ → ℕ → ℕ → Option ℕ → List ℕ → TmView
 packet_view vc mc vcc first field =
     record {

@@ -130,6 +130,7 @@ pub record Shows (p : TmParts) (view : TmView) : Type 0 where
   pub mc_count : view.mc_count ≡ (tm_header p.header).mc
   pub vc_count : view.vc_count ≡ (tm_header p.header).vcc
   pub control : ShowsControl (tm_header p.header).control p.control view.control
+  -- `p.field` is the octets of the data field, and `view.field` is their content
   pub field : HasClass (tm_header p.header) p.field view.field
 
 -- ---- a frame as it is read for a spacecraft

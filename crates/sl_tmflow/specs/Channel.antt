@@ -6,7 +6,7 @@ use Rattle.sl_packet.specs.Front.{Front, OtherVersion, Incomplete, WholePacket, 
 use Rattle.sl_packet.specs.Packets.{rest_of}
 use Rattle.sl_tmframe.specs.TmFrame.{TmView, DataField, Packets, Idle, Opaque}
 use Rattle.sl_tmflow.specs.VirtualChannel.{follows, packet_data}
-use Rattle.sl_tmflow.specs.Delivery.{Continuation, Ends, Continues, Breaks, ended, step_after}
+use Rattle.sl_tmflow.specs.Delivery.{Continuation, Ends, Continues, Breaks, ended, continuation_after}
 use Rattle.sl_tmflow.specs.PacketStart.{whole_packets}
 
 -- the virtual channel frame count of the channel's last frame, and the octets so far of the packet
@@ -30,40 +30,41 @@ new_channel = record { state = no_frame; capacity = 0 }
 
 -- what the next frame does to the packet whose octets are held, after a frame with this count;
 -- `Breaks` where no octets are held
-abbrev pub held_step : Option ℕ → List ℕ → TmView → Continuation
-held_step None held next = Breaks
-held_step (Some count) [] next = Breaks
-held_step (Some count) (octet ∷ octets) next = step_after count (octet ∷ octets) next
+abbrev pub held_continuation : Option ℕ → List ℕ → TmView → Continuation
+held_continuation None held next = Breaks
+held_continuation (Some count) [] next = Breaks
+held_continuation (Some count) (octet ∷ octets) next = continuation_after count (octet ∷ octets) next
 
 -- what the next frame does to the packet whose octets are held, in this state
-abbrev pub step_in : ChannelState → TmView → Continuation
-step_in state next = held_step state.count state.held next
+abbrev pub continuation_in : ChannelState → TmView → Continuation
+continuation_in state next = held_continuation state.count state.held next
 
 -- whether a virtual channel frame count follows the last one
 abbrev pub is_after : Option ℕ → ℕ → Bool
 is_after None count = false
 is_after (Some last) count = follows last count
 
--- the octets that are held after a step, where `octets` are all octets of the packet so far, those
--- of the frame included
+-- the octets that are held after a continuation, where `octets` are all octets of the packet so
+-- far, those of the frame included
 abbrev pub octets_held : Continuation → List ℕ → List ℕ
 octets_held (Ends packet) octets = []
 octets_held Continues octets = octets
 octets_held Breaks octets = []
 
 -- the octets that are held after the next frame, apart from the packets that start in the frame
-abbrev pub held_by : Continuation → List ℕ → TmView → List ℕ
-held_by step held next = octets_held step (held ++ packet_data next)
+abbrev pub held_before_starts : Continuation → List ℕ → TmView → List ℕ
+held_before_starts continuation held next = octets_held continuation (held ++ packet_data next)
 
--- the octets so far of the packet that a step breaks off, and none where it breaks off none
-abbrev pub broken_of : Continuation → List ℕ → List ℕ
-broken_of (Ends packet) octets = []
-broken_of Continues octets = []
-broken_of Breaks octets = octets
+-- the octets so far of the packet that is broken off, and none where none is
+abbrev pub octets_dropped : Continuation → List ℕ → List ℕ
+octets_dropped (Ends packet) octets = []
+octets_dropped Continues octets = []
+octets_dropped Breaks octets = octets
 
--- the held octets that the next frame breaks off
+-- the held octets that the next frame breaks off; of frames, `broken_off` of Anomaly.antt says which
+-- these are
 abbrev pub broken_in : ChannelState → TmView → List ℕ
-broken_in state next = broken_of (step_in state next) state.held
+broken_in state next = octets_dropped (continuation_in state next) state.held
 
 -- the octets, where their front is incomplete, and no octets otherwise
 abbrev pub incomplete_in : Front → List ℕ → List ℕ
@@ -73,15 +74,15 @@ incomplete_in (WholePacket len) octets = []
 
 -- the octets that are held at the end of a data field: those of the packet that is incomplete
 -- there, or `held` where no packet starts in the field
-abbrev pub held_after : DataField → List ℕ → List ℕ
-held_after (Packets None octets) held = held
-held_after (Packets (Some pointer) octets) held =
+abbrev pub held_at_field_end : DataField → List ℕ → List ℕ
+held_at_field_end (Packets None octets) held = held
+held_at_field_end (Packets (Some pointer) octets) held =
     incomplete_in (front_of (rest_of (drop pointer octets))) (rest_of (drop pointer octets))
-held_after Idle held = held
-held_after Opaque held = held
+held_at_field_end Idle held = held
+held_at_field_end Opaque held = held
 
 -- whether the octets after the packets that lie whole in a data field begin with another packet
--- version than 0
+-- version than 0; `foreign_of` of Anomaly.antt says so of all its packet starts
 abbrev pub foreign_in : DataField → Bool
 foreign_in (Packets None octets) = false
 foreign_in (Packets (Some pointer) octets) = is_foreign (rest_of (drop pointer octets))
@@ -93,9 +94,10 @@ abbrev pub channel_after : ChannelState → TmView → ChannelState
 channel_after state next =
     record {
       count = Some next.vc_count;
-      held = held_after next.field (held_by (step_in state next) state.held next);
+      held = held_at_field_end next.field (held_before_starts (continuation_in state next) state.held next);
     }
 
--- the packets that end in the next frame
-abbrev pub packets_after : ChannelState → TmView → List (List ℕ)
-packets_after state next = ended (step_in state next) ++ whole_packets next.field
+-- the packets that end in the next frame; of frames, `ended_by` of Extractor.antt says which these
+-- are
+abbrev pub packets_ended : ChannelState → TmView → List (List ℕ)
+packets_ended state next = ended (continuation_in state next) ++ whole_packets next.field

@@ -96,40 +96,41 @@ ended Breaks = []
 -- octets of the packet so far: `before` octets, and then those of the data field. A packet that is
 -- whole now ends if the pointer agrees with the packet. A packet that is still incomplete goes on
 -- only where no packet starts in the frame.
-abbrev pub front_step : Option ℕ → ℕ → List ℕ → List ℕ → Front → Continuation
-front_step first before field all OtherVersion = Breaks
-front_step first before field all Incomplete = if is_some first then Breaks else Continues
-front_step first before field all (WholePacket len) =
+abbrev pub front_continuation : Option ℕ → ℕ → List ℕ → List ℕ → Front → Continuation
+front_continuation first before field all OtherVersion = Breaks
+front_continuation first before field all Incomplete = if is_some first then Breaks else Continues
+front_continuation first before field all (WholePacket len) =
     if option_eq nat_eq first (agreeing_pointer len before field) then Ends (take len all) else Breaks
 
 -- what the data field of the next frame does to an incomplete packet with these octets so far
-abbrev pub field_step : List ℕ → DataField → Continuation
-field_step octets (Packets first field) =
-    front_step first (length octets) field (octets ++ field) (front_of (octets ++ field))
-field_step octets Idle = Continues
-field_step octets Opaque = Breaks
+abbrev pub field_continuation : List ℕ → DataField → Continuation
+field_continuation octets (Packets first field) =
+    front_continuation first (length octets) field (octets ++ field) (front_of (octets ++ field))
+field_continuation octets Idle = Continues
+field_continuation octets Opaque = Breaks
 
 -- what the next frame does to an incomplete packet, after a frame with this virtual channel frame
 -- count
-abbrev pub step_after : ℕ → List ℕ → TmView → Continuation
-step_after count octets next = if follows count next.vc_count then field_step octets next.field else Breaks
+abbrev pub continuation_after : ℕ → List ℕ → TmView → Continuation
+continuation_after count octets next =
+    if follows count next.vc_count then field_continuation octets next.field else Breaks
 
 -- what the next frame does to an incomplete packet, after this frame
-abbrev pub step_of : TmView → List ℕ → TmView → Continuation
-step_of view octets next = step_after view.vc_count octets next
+abbrev pub continuation_of : TmView → List ℕ → TmView → Continuation
+continuation_of view octets next = continuation_after view.vc_count octets next
 
 -- the outcome after what a frame did, where `later` is the outcome if the packet goes on
-abbrev pub after_step : Continuation → ℕ → Outcome → Outcome
-after_step (Ends packet) passed later = Completes packet passed
-after_step Continues passed later = later
-after_step Breaks passed later = Undelivered
+abbrev pub outcome_of_continuation : Continuation → ℕ → Outcome → Outcome
+outcome_of_continuation (Ends packet) passed later = Completes packet passed
+outcome_of_continuation Continues passed later = later
+outcome_of_continuation Breaks passed later = Undelivered
 
 -- the outcome of an incomplete packet with these octets so far, up to the frame `view`, which comes
 -- `passed` frames after the one in which the packet starts
 abbrev pub outcome_after : ℕ → TmView → List ℕ → List TmView → Outcome
 outcome_after passed view octets [] = StillIncomplete octets
 outcome_after passed view octets (next ∷ later) =
-    after_step (step_of view octets next) (passed + 1)
+    outcome_of_continuation (continuation_of view octets next) (passed + 1)
     (outcome_after (passed + 1) next (octets ++ packet_data next) later)
 
 -- the outcome of a packet start with these octets and these later frames, by the front of the

@@ -1,14 +1,14 @@
 -- A normal form that is made piece by piece: the octets that are still to come, and a piece. The
 -- division into pieces is the code's, and no definition says where a piece ends. The recursion of
 -- `form_left` is the code's too. The clause `left` of `TmForm::new` ties it to the definition: at
--- first `form_of` is still to come, whose frames are those that `channel_frame` defines.
+-- first the `normal_form` is still to come, whose frames are those that `channel_frame` defines.
 use Rattle.std.specs.Prelude.{◌≡◌, ℕ, zero, suc, ◌+◌, ◌*◌, ◌/◌, ◌%◌, ◌<◌, ◌≤◌, ◌==◌, if◌then◌else◌, List, [], ◌∷◌, ◌++◌, length, take, drop, Option, None, Some}
 use Rattle.std.specs.List.{concat}
 use Rattle.std.specs.Global.{Vec}
 use Rattle.std.specs.Vec.{vec_capacity, vec_len}
 use Rattle.sl_tmframe.specs.PacketFrame.{field_room_of, packet_frame}
 use Rattle.sl_tmframe.specs.TmFrame.{TmFormat}
-use Rattle.sl_tmflow.specs.NormalForm.{filling, normal_form}
+use Rattle.sl_tmflow.specs.NormalForm.{filling}
 use Rattle.sl_tmflow.specs.declared.form.Heading.{Heading}
 
 -- what a `TmForm` stands for
@@ -17,10 +17,6 @@ pub record FormState : Type 0 where
   pub left : List ℕ
   -- the number of octets that the `TmForm` itself has memory for
   pub capacity : ℕ
-
--- the normal form of the packets of virtual channels 0 to 7
-abbrev pub form_of : TmFormat → ℕ → List (List (List ℕ)) → List ℕ
-form_of format spacecraft lists = normal_form format spacecraft (take 8 lists)
 
 -- ---- a piece
 
@@ -106,9 +102,11 @@ start_after start frames octets = if frames == 0 then start else length octets
 abbrev pub next_channel : Heading → Heading
 next_channel h = record { spacecraft = h.spacecraft; vc = h.vc + 1; mc_count = h.mc_count; vc_count = 0 }
 
--- the frames of a virtual channel, and then those of later ones, which `others` makes by the heading
--- after the channel's frames; `octets` are kept of packets that were taken, and `packets` weren't
--- taken
+-- The frames of a virtual channel, and then those of later ones. `start`, `octets` and `packets` are
+-- as the fields of a `TmForm`: `octets`, of the packets taken so far, don't fill a data field yet,
+-- and `packets` are still to be taken. `others` gives the frames of the later channels by the
+-- heading after this one's last frame. It is a parameter, since this recursion is on the packets of
+-- one channel, and that of `lists_left` is on the channels.
 abbrev pub channel_left : TmFormat → Heading → ℕ → List ℕ → List (List ℕ) → (Heading → List ℕ) → List ℕ
 channel_left format h start octets (packet ∷ packets) others =
     let all : List ℕ = octets ++ packet in

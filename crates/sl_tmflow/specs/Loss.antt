@@ -58,6 +58,8 @@ pub record AreKept (channel : List TmView) (numbers : List ℕ) (kept : List TmV
 -- frame, to the same frame. From the frame where the packet starts to the frame where it ends, the
 -- whole channel has as many frames as the kept ones, so no frame between them was lost.
 pub record IsSameDelivery (numbers : List ℕ) (d whole : Delivery) : Type 0 where
+  -- the frame that has the number `d.frame` among the kept ones has the number `whole.frame` in the
+  -- whole channel; likewise below
   pub frame : HasNumber numbers d.frame whole.frame
   pub ending : HasNumber numbers d.ending whole.ending
   pub none_lost : whole.ending - whole.frame ≡ d.ending - d.frame
@@ -88,19 +90,22 @@ NoneIsNew =
     (channel : List TmView) (numbers : List ℕ) (kept : List TmView) (d : Delivery) → AreKept channel numbers kept
     → IsDelivery kept d → (whole : Delivery) × IsDelivery channel whole × IsSameDelivery numbers d whole
 
--- Each delivery from the whole channel that lost no frame is one from the kept frames.
+-- What is the same as a delivery from the whole channel, by `IsSameDelivery`, is a delivery from the
+-- kept frames.
 abbrev pub EachIsLeft : Type 0
 EachIsLeft =
     (channel : List TmView) (numbers : List ℕ) (kept : List TmView) (d whole : Delivery) → AreKept channel numbers kept
     → IsDelivery channel whole → IsSameDelivery numbers d whole → IsDelivery kept d
 
--- A delivery from the kept frames has all its frames kept in the whole channel.
+-- Where a delivery from the kept frames is the same as one from the whole channel, with as many
+-- frames, all these frames were kept, by their numbers.
 abbrev pub RunsAreKept : Type 0
 RunsAreKept =
     (numbers : List ℕ) (d whole : Delivery) → FewAreLost numbers → IsSameDelivery numbers d whole
     → RunIsKept numbers whole
 
--- Each delivery of the whole channel whose frames were all kept is one from the kept frames.
+-- For each delivery of the whole channel whose frames were all kept, by their numbers, there is the
+-- same one from the kept frames.
 abbrev pub KeptRunsAreLeft : Type 0
 KeptRunsAreLeft =
     (channel : List TmView) (numbers : List ℕ) (kept : List TmView) (whole : Delivery) → AreKept channel numbers kept

@@ -6,23 +6,23 @@ use Rattle.sl_packet.specs.Packet.{longest_packet}
 use Rattle.sl_tmframe.specs.TmFrame.{Packets}
 use Rattle.sl_tmflow.specs.declared.progress.Progress.{Progress}
 use Rattle.sl_tmflow.specs.declared.progress.Progress.TheVariants as code
-use Rattle.sl_tmflow.specs.Delivery.{Continuation, Ends, Continues, Breaks, field_step, front_step}
+use Rattle.sl_tmflow.specs.Delivery.{Continuation, Ends, Continues, Breaks, field_continuation, front_continuation}
 
 -- the continuation that the code's answer stands for, where the packet has these octets so far,
 -- those of the frame included
-abbrev pub progress_step : Progress → List ℕ → Continuation
-progress_step (code.Ends len) octets = Ends (take len octets)
-progress_step code.Continues octets = Continues
-progress_step code.Breaks octets = Breaks
+abbrev pub progress_continuation : Progress → List ℕ → Continuation
+progress_continuation (code.Ends len) octets = Ends (take len octets)
+progress_continuation code.Continues octets = Continues
+progress_continuation code.Breaks octets = Breaks
 
 -- `part` are octets of the data field that are enough for the incomplete packet, whose octets so
 -- far are `held`.
 pub record IsEnough (held field part : List ℕ) : Type 0 where
   -- whatever the pointer, these octets do to the packet what the whole field does
-  pub step :
+  pub continuation :
       (first : Option ℕ)
-      → front_step first (length held) field (held ++ part) (front_of (held ++ part))
-      ≡ field_step held (Packets first field)
+      → front_continuation first (length held) field (held ++ part) (front_of (held ++ part))
+      ≡ field_continuation held (Packets first field)
   -- the octets are the whole field where the packet stays incomplete
   pub all : front_of (held ++ part) ≡ Incomplete → part ≡ field
   -- with these octets the packet is no longer than the longest packet

@@ -1,5 +1,4 @@
-//! A virtual channel, and the packet that is incomplete on it. A `TmStep` is a report. In clauses a
-//! step is a `Continuation`: what the next frame does to the incomplete packet.
+//! A virtual channel, and the packet that is incomplete on it.
 ghost use Rattle.std.specs.Prelude.{◌≡◌, ◌≢◌, ◌⊎◌, ◌≤◌, ◌+◌, ◌++◌, [], length, OnOk, IfOk, IfErr};
 ghost use Rattle.sl_packet.specs.Front.{front_of, is_foreign};
 ghost use Rattle.sl_packet.specs.Packets.{packets_of, rest_of};
@@ -7,10 +6,10 @@ ghost use Rattle.sl_packet.specs.Stopping.{HandsOver};
 ghost use Rattle.sl_tmframe.specs.TmField.{as_content};
 ghost use Rattle.sl_tmframe.specs.TmFrame.{IsFieldInRange, Packets, longest_field};
 ghost use Rattle.sl_tmflow.specs.Anomaly.{gap_after};
-ghost use Rattle.sl_tmflow.specs.Channel.{broken_in, broken_of, foreign_in, held_after};
-ghost use Rattle.sl_tmflow.specs.Channel.{held_by, octets_held, incomplete_in, is_after, new_channel};
-ghost use Rattle.sl_tmflow.specs.Channel.{packets_after, channel_after, step_in};
-ghost use Rattle.sl_tmflow.specs.Delivery.{ended, field_step};
+ghost use Rattle.sl_tmflow.specs.Channel.{broken_in, octets_dropped, foreign_in, held_at_field_end};
+ghost use Rattle.sl_tmflow.specs.Channel.{held_before_starts, octets_held, incomplete_in, is_after, new_channel};
+ghost use Rattle.sl_tmflow.specs.Channel.{packets_ended, channel_after, continuation_in};
+ghost use Rattle.sl_tmflow.specs.Delivery.{ended, field_continuation};
 ghost use Rattle.sl_tmflow.specs.Incomplete.{longest_incomplete};
 ghost use Rattle.sl_tmflow.specs.PacketStart.{whole_packets};
 ghost use Rattle.sl_tmflow.specs.StepReport.{counts_of};
@@ -26,7 +25,7 @@ use std::marker::Model;
 
 /// What is kept of a virtual channel after its last frame.
 #[derive(Drop)]
-pub struct Channel {
+pub(crate) struct Channel {
     // The virtual channel frame count of the last frame, and `None` before the first one.
     count: Option<u8>,
     // The octets so far of the incomplete packet, at most 65,541. Empty where no packet is
@@ -48,7 +47,7 @@ impl Model for Channel {
 
 impl Channel {
     /// A virtual channel that had no frame yet.
-    pub fn new(alloc: Global) -> Channel
+    pub(crate) fn new(alloc: Global) -> Channel
         ensures { result ≡ new_channel }
     {
         Channel {
@@ -60,7 +59,7 @@ impl Channel {
     /// Takes the next frame: hands the sink the packets that end in the frame, and answers the
     /// report on the frame. After a fault no clause says what the state is, and the extractor
     /// doesn't read it any more.
-    pub fn take_frame<S: PacketSink>(
+    pub(crate) fn take_frame<S: PacketSink>(
         &mut self,
         frame: &TmFrame,
         sink: &mut S,
@@ -68,7 +67,7 @@ impl Channel {
         // The state after the frame, and the packets that end in it.
         ensures state { OnOk result (self.new.state ≡ channel_after self.old.state frame.now) }
         ensures hands_over { HandsOver S.taking S.failing S.failures counts_of
-            sink.old frame.now.vc (packets_after self.old.state frame.now) result sink.new }
+            sink.old frame.now.vc (packets_ended self.old.state frame.now) result sink.new }
 
         // The anomalies.
         ensures gap { IfOk result (λ report.
@@ -85,26 +84,26 @@ impl Channel {
         // The packet that was incomplete before the frame comes first, then those that start in it.
         // `match` and not `?`, here and below: `?` converts the fault, and each clause that says
         // which fault it is would then have to be proved by hand.
-        let ended = match self.continue_packet(frame, sink) {
+        let continued = match self.continue_packet(frame, sink) {
             Ok(report) => report,
             Err(flow) => return Err(flow),
         };
         self.count = Some(frame.vc_count());
-        let begun = match self.take_starts(&frame.field(), u16::from(frame.vc()), sink) {
+        let started = match self.take_starts(&frame.field(), u16::from(frame.vc()), sink) {
             Ok(report) => report,
             Err(flow) => return Err(flow),
         };
         Ok(TmStep {
-            packets: ended.packets + begun.packets,
-            idle: ended.idle + begun.idle,
+            packets: continued.packets + started.packets,
+            idle: continued.idle + started.idle,
             gap,
-            dropped: ended.dropped,
-            foreign: begun.foreign,
+            dropped: continued.dropped,
+            foreign: started.foreign,
         })
     }
 
     /// The number of octets so far of the incomplete packet, and 0 where no packet is incomplete.
-    pub fn held(&self) -> u32
+    pub(crate) fn held(&self) -> u32
         ensures value { result ≡ length self.now.state.held }
         ensures most { result ≤ longest_incomplete }
     {
@@ -132,12 +131,12 @@ impl Channel {
     ) -> Result<TmStep, FlowFault>
         // A packet that goes on is kept, with the frame's octets.
         ensures count { self.new.state.count ≡ self.old.state.count }
-        ensures held { OnOk result (self.new.state.held
-            ≡ held_by (step_in self.old.state frame.now) self.old.state.held frame.now) }
+        ensures held { OnOk result (self.new.state.held ≡ held_before_starts
+            (continuation_in self.old.state frame.now) self.old.state.held frame.now) }
 
         // The sink is handed a packet that ends. The octets of one that is broken off are counted.
-        ensures hands_over { HandsOver S.taking S.failing S.failures counts_of
-            sink.old frame.now.vc (ended (step_in self.old.state frame.now)) result sink.new }
+        ensures hands_over { HandsOver S.taking S.failing S.failures counts_of sink.old
+            frame.now.vc (ended (continuation_in self.old.state frame.now)) result sink.new }
         ensures few { IfOk result (λ report. report.packets + report.idle ≤ 1) }
         ensures dropped { IfOk result (λ report.
             report.dropped ≡ length (broken_in self.old.state frame.now)) }
@@ -200,17 +199,17 @@ impl Channel {
         // A packet that goes on is kept, with all octets of the field.
         ensures count { self.new.state.count ≡ self.old.state.count }
         ensures held { OnOk result (self.new.state.held ≡ octets_held
-            (field_step self.old.state.held (Packets field.now.first field.now.octets.now))
+            (field_continuation self.old.state.held (Packets field.now.first field.now.octets.now))
             (self.old.state.held ++ field.now.octets.now)) }
 
         // Where the packet ends, the sink is handed it. Where the packet is broken off, its octets
         // before the field are counted.
         ensures hands_over { HandsOver S.taking S.failing S.failures counts_of sink.old vc
-            (ended (field_step self.old.state.held (Packets field.now.first field.now.octets.now)))
-            result sink.new }
+            (ended (field_continuation self.old.state.held
+            (Packets field.now.first field.now.octets.now))) result sink.new }
         ensures few { IfOk result (λ report. report.packets + report.idle ≤ 1) }
-        ensures dropped { IfOk result (λ report. report.dropped ≡ length (broken_of
-            (field_step self.old.state.held (Packets field.now.first field.now.octets.now))
+        ensures dropped { IfOk result (λ report. report.dropped ≡ length (octets_dropped
+            (field_continuation self.old.state.held (Packets field.now.first field.now.octets.now))
             self.old.state.held)) }
     {
         let before = self.held.len();
@@ -246,9 +245,9 @@ impl Channel {
         // where there is such a packet.
         ensures count { self.new.state.count ≡ self.old.state.count }
         ensures held { OnOk result
-            (self.new.state.held ≡ held_after (as_content field.now) self.old.state.held) }
+            (self.new.state.held ≡ held_at_field_end (as_content field.now) self.old.state.held) }
         ensures memory { IfErr result (λ flow. flow ≡ FlowFault.Memory
-            → held_after (as_content field.now) self.old.state.held ≢ []) }
+            → held_at_field_end (as_content field.now) self.old.state.held ≢ []) }
 
         // The sink is handed the packets that lie whole in the field. Octets of another packet
         // version after these packets are reported.
@@ -295,11 +294,11 @@ impl Channel {
             Ok(handed) => handed,
             Err(flow) => return Err(flow),
         };
-        let (begun, foreign) = read_remainder(remainder);
+        let (incomplete, foreign) = read_remainder(remainder);
         // No octets are held here, since a packet that goes on leaves no packet start. The contract
         // doesn't say so.
         self.held.clear();
-        if add_part(&mut self.held, begun).is_err() {
+        if add_part(&mut self.held, incomplete).is_err() {
             return Err(FlowFault::Memory);
         }
         Ok(TmStep { foreign, ..report })
@@ -309,7 +308,7 @@ impl Channel {
 // The octets, where they are the front of a packet that isn't there whole, and otherwise no octets.
 // Then whether there is a first octet, and the packet version in it is another one than 0.
 fn read_remainder(octets: &[u8]) -> (&[u8], bool)
-    ensures begun { result.0.now ≡ incomplete_in (front_of octets.now) octets.now }
+    ensures incomplete { result.0.now ≡ incomplete_in (front_of octets.now) octets.now }
     ensures foreign { result.1 ≡ is_foreign octets.now }
 {
     match need(octets) {

@@ -98,10 +98,10 @@ impl Extractor {
         ensures left { result ≡ Err FlowFault.Failed
             → IsFailed self.old × (self.new ≡ self.old) × (sink.new ≡ sink.old) }
 
-        // At a fault of this call the sink has accepted the packets up to a point. `IsStopped` says
-        // up to which one, for `Memory` and for `Sink`. Whatever was processed before, the sink's
-        // count of refused packets rises exactly where the fault is `Sink`, unless the count is at
-        // its greatest.
+        // At a fault of this call the sink has accepted the packets up to a point. By `IsStopped`
+        // this is the refused packet for `Sink`, and any point for `Memory`. `counted` says again,
+        // for callers that know of no processed frames, that the sink's count of refused packets
+        // rises exactly where the fault is `Sink`, unless the count is at its greatest.
         ensures stopped { IfErr result (λ flow. flow ≢ FlowFault.Failed → IsFailed self.new
             × ForProcessed self.old (λ views.
             IsStopped S.taking S.failing S.failures sink.old frame.now.vc

@@ -6,10 +6,10 @@ ghost use Rattle.std.specs.Vec.{vec_len, vec_capacity};
 ghost use Rattle.sl_packet.specs.Packet.{longest_packet};
 ghost use Rattle.sl_tmframe.specs.PacketFrame.{field_room_of};
 ghost use Rattle.sl_tmframe.specs.TmFrame.{longest_field};
-ghost use Rattle.sl_tmflow.specs.Form.{AddsPiece, IsReserved, LacksRoom, form_of, piece_room};
+ghost use Rattle.sl_tmflow.specs.Form.{AddsPiece, IsReserved, LacksRoom, piece_room};
 ghost use Rattle.sl_tmflow.specs.Form.{octets_room, heading_after, filled_up, filled_frames};
 ghost use Rattle.sl_tmflow.specs.Form.{frames_len, fields_in, beyond_fields};
-ghost use Rattle.sl_tmflow.specs.NormalForm.{fill_of, filling};
+ghost use Rattle.sl_tmflow.specs.NormalForm.{fill_of, filling, normal_form};
 ghost use Rattle.sl_tmflow.specs.Recording.{tm_lists};
 
 use crate::packet_octets::PacketOctets;
@@ -91,8 +91,9 @@ impl<'d> TmForm<'d> {
     /// The normal form of the packets on channels 0 to 7 of `delivered`, which are the virtual
     /// channels, in frames of this format. All octets of the form are still to come. `spacecraft`,
     /// the spacecraft identifier of all frames, is 0 to 1023. Packets on channels from 8 on are
-    /// left out; [`fits_tm`](sl_packet::Delivered::fits_tm) tests that there are none. The `TmForm`
-    /// holds no memory yet.
+    /// left out, as the clauses say; a caller that must not lose any tests first, by
+    /// [`fits_tm`](sl_packet::Delivered::fits_tm), that there are none. The `TmForm` holds no
+    /// memory yet.
     pub fn new(
         alloc: Global,
         shape: &TmShape,
@@ -101,11 +102,13 @@ impl<'d> TmForm<'d> {
     ) -> TmForm<'d>
         requires spacecraft { spacecraft ≤ 1023 }
         // All octets of the form of these packets are still to come.
-        ensures left { result.left ≡ form_of shape.now spacecraft delivered.now.lists }
+        ensures left { result.left
+            ≡ normal_form shape.now spacecraft (take 8 delivered.now.lists) }
 
         // Read as a recording, the form delivers these packets again.
         ensures delivers { tm_lists shape.now spacecraft
-            (form_of shape.now spacecraft delivered.now.lists) ≡ take 8 delivered.now.lists }
+            (normal_form shape.now spacecraft (take 8 delivered.now.lists))
+            ≡ take 8 delivered.now.lists }
 
         // No memory is held.
         ensures memory { result.capacity ≡ 0 }
@@ -263,8 +266,8 @@ fn add_packet(
     ensures keeps { vec_capacity octets.old ≤ vec_capacity octets.new }
     ensures capacity { vec_capacity form.old ≤ vec_capacity form.new }
 {
-    let room = usize::from(shape.room());
-    let wanted = room - octets.len();
+    let field_len = usize::from(shape.room());
+    let wanted = field_len - octets.len();
     if packet.len() < wanted {
         octets.extend_from_slice(packet)?;
         return Ok(0);
@@ -287,8 +290,8 @@ fn add_packet(
         octets: rest,
     };
     push_fields(form, shape, heading.after(1), &later)?;
-    octets.extend_from_slice(&rest[rest.len() - rest.len() % room..])?;
-    Ok(rest.len() / room + 1)
+    octets.extend_from_slice(&rest[rest.len() - rest.len() % field_len..])?;
+    Ok(rest.len() / field_len + 1)
 }
 
 // Fills the kept octets up by an idle packet, and adds the frames that they fill then. Keeps no
@@ -320,9 +323,9 @@ fn add_filling(
     ensures keeps { vec_capacity octets.old ≤ vec_capacity octets.new }
     ensures capacity { vec_capacity form.old ≤ vec_capacity form.new }
 {
-    let room = usize::from(shape.room());
-    fill_up(octets, room)?;
-    let frames = octets.len() / room;
+    let field_len = usize::from(shape.room());
+    fill_up(octets, field_len)?;
+    let frames = octets.len() / field_len;
     let whole = PacketOctets {
         first: Some(start),
         octets: octets.as_slice(),
@@ -335,40 +338,39 @@ fn add_filling(
     Ok(frames)
 }
 
-// Adds the idle packet that fills the octets up to a multiple of `room`, if one is needed. `room`
-// is the length of a data field.
-fn fill_up(octets: &mut Vec<u8>, room: usize) -> Result<(), AllocError>
-    requires least { 24 ≤ room }
-    requires most { room ≤ longest_field }
+// Adds the idle packet that fills the octets up to a multiple of `field_len`, if one is needed.
+fn fill_up(octets: &mut Vec<u8>, field_len: usize) -> Result<(), AllocError>
+    requires least { 24 ≤ field_len }
+    requires most { field_len ≤ longest_field }
     // Where memory is refused, nothing is added, and there was no room for 2048 octets more. No
     // idle packet that is needed here is longer. No memory is given back.
     ensures octets { OnOk result (octets.new.items ≡ octets.old.items
-        ++ concat (filling room (length octets.old.items))) }
+        ++ concat (filling field_len (length octets.old.items))) }
     ensures unchanged { OnErr result (octets.new.items ≡ octets.old.items) }
     ensures full { OnErr result (vec_capacity octets.old < vec_len octets.old + 2048) }
     ensures capacity { vec_capacity octets.old ≤ vec_capacity octets.new }
 {
-    let fill = fill_len(room, octets.len());
+    let fill = fill_len(field_len, octets.len());
     if fill == 0 {
         return Ok(());
     }
     push_idle(octets, fill as u32)
 }
 
-// The length of the shortest idle packet that fills `len` octets up to a multiple of `room`. 0
+// The length of the shortest idle packet that fills `len` octets up to a multiple of `field_len`. 0
 // where none is needed.
-fn fill_len(room: usize, len: usize) -> usize
-    requires least { 24 ≤ room }
-    requires most { room ≤ longest_field }
-    ensures value { result ≡ fill_of room len }
+fn fill_len(field_len: usize, len: usize) -> usize
+    requires least { 24 ≤ field_len }
+    requires most { field_len ≤ longest_field }
+    ensures value { result ≡ fill_of field_len len }
     ensures most { result ≤ 2048 }
 {
-    let missing = (room - len % room) % room;
+    let missing = (field_len - len % field_len) % field_len;
     // An idle packet has 7 octets at least.
     if missing == 0 || missing >= 7 {
         return missing;
     }
-    missing + room
+    missing + field_len
 }
 
 // Adds a frame for each data field that the octets fill, and leaves out the octets beyond these.
@@ -394,12 +396,12 @@ fn push_fields(
         < vec_len form.old + frames_len shape.now packets.now.octets.now) }
     ensures capacity { vec_capacity form.old ≤ vec_capacity form.new }
 {
-    let room = usize::from(shape.room());
+    let field_len = usize::from(shape.room());
     let mut heading = heading;
     let mut first = packets.first;
     let mut left = packets.octets;
-    while left.len() >= room {
-        let (field, later) = left.split_at(room);
+    while left.len() >= field_len {
+        let (field, later) = left.split_at(field_len);
         let Heading {
             spacecraft,
             vc,

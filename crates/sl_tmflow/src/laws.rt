@@ -53,9 +53,9 @@ pub fn tm_packets_are_handed_over()
     ensures { DeliveredAreHandedOver }
 {}
 
-/// Packets in the order of their starts are also in the order of their ends. Each packet has ended
-/// by the frame in which the next one starts, and no two packets share an octet. So at most one
-/// packet is listed as incomplete after a frame, with 1 to 65,541 octets so far.
+/// Delivered packets in the order of their starts are also in the order of their ends. Each has
+/// ended by the frame in which the next one starts, and no two share an octet. Of the incomplete
+/// packets at most one is listed after a frame (`one`), with 1 to 65,541 octets so far (`short`).
 pub fn tm_packets_end_in_order()
     ensures in_order { EndsAreInOrder }
     ensures by_the_next { EachEndsByTheNextStart }
@@ -65,9 +65,9 @@ pub fn tm_packets_end_in_order()
 {}
 
 /// The listed packets that are incomplete after the last frame of a virtual channel are incomplete,
-/// and every incomplete packet is listed. At most one packet start has an incomplete packet. The
-/// octets in the list are as many as this packet has so far, and none where no packet is
-/// incomplete.
+/// and every incomplete packet is listed. At most one packet start has an incomplete packet
+/// (`one`). The octets in the list are as many as this packet has so far, and none where no packet
+/// is incomplete.
 pub fn tm_incomplete_packets_are_listed()
     ensures each { EachListedIsIncomplete }
     ensures all { EachIncompleteIsListed }
@@ -111,9 +111,15 @@ pub fn tm_foreign_starts_are_told()
 /// start in the same frame, to the same frame, and none of its frames was lost. Each delivery from
 /// the whole channel that lost no frame is one from the kept frames.
 pub fn tm_loss_is_local()
+    // Each delivery from the kept frames is the same as one from the whole channel. No frame was
+    // lost: `IsSameDelivery` says so by how many there are from start to end.
     ensures none_new { NoneIsNew }
+    // What is the same as a delivery from the whole channel is a delivery from the kept frames.
     ensures each_left { EachIsLeft }
+    // Where two are the same, each number from start to end was kept (`RunIsKept`).
     ensures all_kept { RunsAreKept }
+    // For each delivery from the whole channel of which each number was kept, there is the same one
+    // from the kept frames.
     ensures kept_left { KeptRunsAreLeft }
 {}
 

@@ -10,9 +10,8 @@
 #![tactic(auto)]
 
 // From the bottom: `packet_octets`, `report`, `hand_over`, `progress`, `channel` and `extractor`
-// take packets out of frames; `form` and `reframe` write frames, with `packet_octets`. A `pub fn`
-// of these modules is public only in `laws`, or if it or its type stands in a `pub use` below;
-// specs call the others private.
+// take packets out of frames; `form` and `reframe` write frames, with `packet_octets`. What is
+// `pub` in them is public; specs call all other functions private.
 mod channel;
 mod extractor;
 mod form;

@@ -1,11 +1,11 @@
 //! What the next frame of packets does to an incomplete packet, and which first header pointer
-//! agrees with that packet.
+//! agrees with that packet. In clauses this is a `Continuation`.
 ghost use Rattle.std.specs.Prelude.{◌≡◌, ◌≤◌, ◌<◌, ◌+◌, ◌^◌, ◌++◌, ℕ, length, take, IfOk, OnErr};
 ghost use Rattle.sl_packet.specs.Front.{front_of};
 ghost use Rattle.sl_tmframe.specs.TmFrame.{Packets, longest_field};
-ghost use Rattle.sl_tmflow.specs.Delivery.{agreeing_pointer, field_step, front_step};
+ghost use Rattle.sl_tmflow.specs.Delivery.{agreeing_pointer, field_continuation, front_continuation};
 ghost use Rattle.sl_tmflow.specs.Incomplete.{longest_incomplete};
-ghost use Rattle.sl_tmflow.specs.Progress.{IsEnough, progress_step};
+ghost use Rattle.sl_tmflow.specs.Progress.{IsEnough, progress_continuation};
 
 use crate::packet_octets::PacketOctets;
 use sl_packet::laws::needs_tell_packets;
@@ -32,8 +32,8 @@ pub(crate) fn add_field(held: &mut Vec<u8>, field: &PacketOctets) -> Result<Prog
     requires held { length held.old.items ≤ longest_incomplete }
     requires short { length field.now.octets.now ≤ longest_field }
     // The answer is what the whole field does to the packet. A packet that ends is held whole.
-    ensures step { IfOk result (λ progress. progress_step progress held.new.items
-        ≡ field_step held.old.items (Packets field.now.first field.now.octets.now)) }
+    ensures continuation { IfOk result (λ progress. progress_continuation progress held.new.items
+        ≡ field_continuation held.old.items (Packets field.now.first field.now.octets.now)) }
     ensures inside { IfOk result (λ progress.
         (len : ℕ) → progress ≡ Progress.Ends len → len ≤ length held.new.items) }
 
@@ -72,12 +72,12 @@ fn wanted<'a>(held: &[u8], field: &'a [u8]) -> &'a [u8]
 }
 
 // Whether the incomplete packet ends in the frame with this field, goes on past the frame or is
-// broken off. `octets` are all octets of the packet so far. The first `before` of them are from
-// earlier frames.
+// broken off. `octets` are the octets from earlier frames, `before` of them, and then as many of
+// the field's as are enough (`IsEnough`): the answer is the same as for the whole field.
 fn progress_in(octets: &[u8], before: usize, field: &PacketOctets) -> Progress
     requires { before + length field.now.octets.now < 2 ^ 64 }
-    ensures step { progress_step result octets.now
-        ≡ front_step field.now.first before field.now.octets.now octets.now (front_of octets.now) }
+    ensures continuation { progress_continuation result octets.now ≡ front_continuation
+        field.now.first before field.now.octets.now octets.now (front_of octets.now) }
     ensures inside { (len : ℕ) → result ≡ Progress.Ends len → len ≤ length octets.now }
     ensures short { result ≡ Progress.Continues → length octets.now ≤ longest_incomplete }
 {
@@ -107,7 +107,7 @@ fn agreeing_pointer(len: usize, before: usize, field: &[u8]) -> Option<usize>
     ensures { result ≡ agreeing_pointer len before field.now }
 {
     if len < before + field.len() {
-        // Never fewer of an incomplete packet. The contract speaks of any octets.
+        // `len` is at least `before` for an incomplete packet. The contract speaks of any numbers.
         Some(len.saturating_sub(before))
     } else {
         None

@@ -25,8 +25,8 @@ pub fn reframe_tm(
     spacecraft: u16,
     delivered: &Delivered,
 ) -> Result<Vec<u8>, AllocError>
-    // Packets on channels from 8 on would be left out of the form. This keeps a caller from losing
-    // them.
+    // Packets on channels from 8 on would be left out of the form, as `TmForm::new` leaves them
+    // out. This keeps a caller from losing them.
     requires fits { FitsTm delivered.now }
     requires spacecraft { spacecraft ≤ 1023 }
     // The form is the normal form of these packets, and delivers them again.

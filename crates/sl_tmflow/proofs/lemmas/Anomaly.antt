@@ -12,7 +12,7 @@ use Rattle.sl_packet.proofs.PacketsLemmas.{each_has_packets}
 use Rattle.sl_tmframe.specs.TmFrame.{DataField, Packets, Idle, Opaque, TmView}
 use Rattle.sl_tmflow.specs.Anomaly.{EachForeignStartIsTold, EachGapIsTold, EachToldIsAForeignStart, EachToldIsAGap, foreign_of, gap_after, gap_of, broken_off, dropped_of}
 use Rattle.sl_tmflow.specs.VirtualChannel.{is_consecutive, views_on}
-use Rattle.sl_tmflow.specs.Channel.{foreign_in, ChannelState, held_step, broken_of, broken_in, channel_after}
+use Rattle.sl_tmflow.specs.Channel.{foreign_in, ChannelState, held_continuation, octets_dropped, broken_in, channel_after}
 use Rattle.sl_tmflow.specs.PacketStart.{packet_offsets, starts_from}
 use Rattle.sl_tmflow.proofs.lemmas.Delivery.Channel.{last_count-push, same_seen, seen_more}
 use Rattle.sl_tmflow.proofs.lemmas.Places.{some_passes, has_last}
@@ -104,7 +104,7 @@ none_held held none = grind arith
 
 -- ---- the packet that the next frame breaks off
 
-lost_held : (last next : TmView) (held : List ℕ) → concat (flat_map (lost_in last next) (held_as held)) ≡ broken_of (held_step (Some last.vc_count) held next) held
+lost_held : (last next : TmView) (held : List ℕ) → concat (flat_map (lost_in last next) (held_as held)) ≡ octets_dropped (held_continuation (Some last.vc_count) held next) held
 lost_held last next held = grind (arith, append-nil)
 
 dropped_after : (state : ChannelState) (before : List TmView) (last next : TmView) → HasSeen state (before ++ last ∷ [])
@@ -113,7 +113,7 @@ dropped_after state before last next seen = grind (arith, broken_next, lost_held
 
 pub dropped_seen : (state : ChannelState) (channel : List TmView) (next : TmView) → HasSeen state channel → dropped_of channel next ≡ length (broken_in state next)
 dropped_seen state [] next seen =
-    ap length (sym (ap (λ c. broken_of (held_step c state.held next) state.held) seen.count ∙ none_held state.held seen.held))
+    ap length (sym (ap (λ c. octets_dropped (held_continuation c state.held next) state.held) seen.count ∙ none_held state.held seen.held))
 dropped_seen state (view ∷ later) next seen =
     let (before, last, same) = has_last view later in
     ap (λ l. dropped_of l next) same ∙ ap length (dropped_after state before last next (subst (HasSeen state) same seen))

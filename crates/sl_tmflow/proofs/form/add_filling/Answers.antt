@@ -11,7 +11,7 @@ pub returns-in_err-pushed-clause-full : goal.returns-in_err-pushed-clause-full
 returns-in_err-pushed-clause-full c =
     let format = c.args.shape.now in
     let value = c.room.ensures.value in
-    let filled = ap (frames_len format) (c.as_slice.ensures.value ∙ c.in_ok-fill_up.ensures.octets ∙ ap (λ n. c.args.octets.now.items ++ concat (filling n (length c.args.octets.now.items))) (c.from-room.ensures ∙ value)) in
+    let filled = ap (frames_len format) (c.as_slice.ensures.value ∙ c.in_ok-fill_up.ensures.octets ∙ ap (λ n. c.args.octets.now.items ++ concat (filling n (length c.args.octets.now.items))) (c.from-field_len.ensures ∙ value)) in
     let small = small_filling format c.args.octets.now.items (omega (arith, value, c.room.ensures.least)) (omega (arith, value, c.room.ensures.most)) c.requires.few in
     let out = err_from_is_err_and c.from_residual-in_err-pushed.result c.from_residual-in_err-pushed.ensures.1 in
     rw (out.1) (λ _. omega (arith, c.in_err-pushed.ensures.full, filled, small))

@@ -9,15 +9,15 @@ use Rattle.sl_tmflow.proofs.form.add_packet.Goals as goal
 
 -- the octets and the packet don't fill a data field
 few : (c : Then-packet-wanted) → length (c.args.octets.now.items ++ c.args.packet.now) < field_room_of c.args.shape.now
-few c = omega (arith, c.if-packet-wanted.true, length-append c.args.octets.now.items c.args.packet.now, c.from-room.ensures ∙ c.room.ensures.value, c.len.ensures, c.requires.few)
+few c = omega (arith, c.if-packet-wanted.true, length-append c.args.octets.now.items c.args.packet.now, c.from-field_len.ensures ∙ c.room.ensures.value, c.len.ensures, c.requires.few)
 
 -- the head of the packet fills the octets up
 fills_up : (c : After-split_at) → FillsUp c.args.shape.now c.args.octets.now.items c.args.packet.now c.split_at.result.0.now c.split_at.result.1.now
 fills_up c =
-    let room = c.from-room.ensures ∙ c.room.ensures.value in
+    let room = c.from-field_len.ensures ∙ c.room.ensures.value in
     record {
-      roomy = omega (arith, room, c.room.ensures.least, c.from-room.ensures);
-      divided = rw (c.split_at.ensures.front, c.split_at.ensures.back) (sym (take-append-drop (c.from-room.result - c.len.result) c.args.packet.now));
+      roomy = omega (arith, room, c.room.ensures.least, c.from-field_len.ensures);
+      divided = rw (c.split_at.ensures.front, c.split_at.ensures.back) (sym (take-append-drop (c.from-field_len.result - c.len.result) c.args.packet.now));
       whole = omega (arith, length-append c.args.octets.now.items c.split_at.result.0.now, c.split_at.ensures.front_len, room, c.len.ensures, c.requires.few);
     }
 
@@ -64,11 +64,11 @@ returns-clause-frames c =
 pub returns-clause-beyond : goal.returns-clause-beyond
 returns-clause-beyond c =
     let rest = c.split_at.result.1.now in
-    let from = length rest - length rest % c.from-room.result in
-    let is = ap (λ n. length rest - length rest % n) (c.from-room.ensures ∙ c.room.ensures.value) in
+    let from = length rest - length rest % c.from-field_len.result in
+    let is = ap (λ n. length rest - length rest % n) (c.from-field_len.ensures ∙ c.room.ensures.value) in
     rw (c.in_ok-extend_from_slice-3.ensures.items, c.clear.ensures.items, take_rest) (sym (beyond_both (fills_up (goal.at.returns-clause-beyond c).After-split_at) from is))
 
 pub returns-clause-count : goal.returns-clause-count
 returns-clause-count c =
     let s = fills_up (goal.at.returns-clause-count c).After-split_at in
-    omega (arith, fields_of_both s, ap (λ n. length c.split_at.result.1.now / n) (c.from-room.ensures ∙ c.room.ensures.value))
+    omega (arith, fields_of_both s, ap (λ n. length c.split_at.result.1.now / n) (c.from-field_len.ensures ∙ c.room.ensures.value))

@@ -15,9 +15,9 @@ loop-left-init c = (record { frames = refl; sizes = refl }, (omega arith, (c.req
 parts : (c : After-split_at)
     → (0 < field_room_of c.args.shape.now) × (c.loop-left.left.now ≡ c.split_at.result.0.now ++ c.split_at.result.1.now) × (length c.split_at.result.0.now ≡ field_room_of c.args.shape.now)
 parts c =
-    let room = c.from-room.ensures ∙ c.room.ensures.value in (
-      omega (arith, room, c.room.ensures.least, c.from-room.ensures),
-      rw (c.split_at.ensures.front, c.split_at.ensures.back) (sym (take-append-drop c.from-room.result c.loop-left.left.now)),
+    let room = c.from-field_len.ensures ∙ c.room.ensures.value in (
+      omega (arith, room, c.room.ensures.least, c.from-field_len.ensures),
+      rw (c.split_at.ensures.front, c.split_at.ensures.back) (sym (take-append-drop c.from-field_len.result c.loop-left.left.now)),
       c.split_at.ensures.front_len ∙ room,
     )
 
@@ -42,10 +42,10 @@ returns-in_err-push_tm-clause-full c =
 
 pub returns-clause-frames : goal.returns-clause-frames
 returns-clause-frames c =
-    let few : length c.loop-left.left.now < field_room_of c.args.shape.now = omega (arith, c.loop-left-test.false, c.from-room.ensures ∙ c.room.ensures.value) in
+    let few : length c.loop-left.left.now < field_room_of c.args.shape.now = omega (arith, c.loop-left-test.false, c.from-field_len.ensures ∙ c.room.ensures.value) in
     (all_pushed c.args.shape.now c.loop-left.heading _ _ c.loop-left.first c.loop-left.left.now c.loop-left.form.items (vec_len c.loop-left.form) few c.loop-left.invariant.0).0
 
 pub returns-clause-size : goal.returns-clause-size
 returns-clause-size c =
-    let few : length c.loop-left.left.now < field_room_of c.args.shape.now = omega (arith, c.loop-left-test.false, c.from-room.ensures ∙ c.room.ensures.value) in
+    let few : length c.loop-left.left.now < field_room_of c.args.shape.now = omega (arith, c.loop-left-test.false, c.from-field_len.ensures ∙ c.room.ensures.value) in
     (all_pushed c.args.shape.now c.loop-left.heading _ _ c.loop-left.first c.loop-left.left.now c.loop-left.form.items (vec_len c.loop-left.form) few c.loop-left.invariant.0).1

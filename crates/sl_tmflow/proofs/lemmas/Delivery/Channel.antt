@@ -12,8 +12,8 @@ use Rattle.sl_packet.specs.declared.sink.SinkFault.{SinkFault}
 use Rattle.sl_packet.proofs.StoppingLemmas.{hands_same}
 use Rattle.sl_tmframe.specs.TmFrame.{TmView, DataField, Packets}
 use Rattle.sl_tmflow.specs.VirtualChannel.{views_on, last_count}
-use Rattle.sl_tmflow.specs.Channel.{ChannelState, ChannelWithMemory, new_channel, held_step, octets_held, held_by, incomplete_in, held_after, channel_after, packets_after}
-use Rattle.sl_tmflow.specs.Delivery.{Continuation, ended, front_step, outcome_of, outcome_of_front, packets_ending}
+use Rattle.sl_tmflow.specs.Channel.{ChannelState, ChannelWithMemory, new_channel, held_continuation, octets_held, held_before_starts, incomplete_in, held_at_field_end, channel_after, packets_ended}
+use Rattle.sl_tmflow.specs.Delivery.{Continuation, ended, front_continuation, outcome_of, outcome_of_front, packets_ending}
 use Rattle.sl_tmflow.specs.Incomplete.{frame_incomplete, incomplete_octets}
 use Rattle.sl_tmflow.specs.Extractor.{ExtractorState, HasSeen, HasProcessed, ended_by, held_as}
 use Rattle.sl_tmflow.specs.PacketStart.{whole_packets}
@@ -33,11 +33,11 @@ last_count-push (view ∷ next ∷ before) last = last_count-push (next ∷ befo
 -- ---- the packets that end in the next frame
 
 one_more_after : (state : ChannelState) (before : List TmView) (last next : TmView) → HasSeen state (before ++ last ∷ [])
-    → packets_ending (before ++ last ∷ []) next ≡ packets_after state next
+    → packets_ending (before ++ last ∷ []) next ≡ packets_ended state next
 one_more_after state before last next seen = grind (arith, ending_next, last_count-push, append-nil)
 
-pub one_more_frame : (state : ChannelState) (channel : List TmView) (next : TmView) → HasSeen state channel → packets_ending channel next ≡ packets_after state next
-one_more_frame state [] next seen = ending_first next ∙ ap (λ c. ended (held_step c state.held next) ++ whole_packets next.field) (sym seen.count)
+pub one_more_frame : (state : ChannelState) (channel : List TmView) (next : TmView) → HasSeen state channel → packets_ending channel next ≡ packets_ended state next
+one_more_frame state [] next seen = ending_first next ∙ ap (λ c. ended (held_continuation c state.held next) ++ whole_packets next.field) (sym seen.count)
 one_more_frame state (view ∷ later) next seen =
     let w = has_last view later in
     ap (λ l. packets_ending l next) w.2 ∙ one_more_after state w.0 w.1 next (subst (HasSeen state) w.2 seen)
@@ -49,11 +49,11 @@ goes_on s octet octets = grind arith
 
 -- where a packet starts, the incomplete one doesn't go on
 
-not_past_start : (pointer before : ℕ) (field all : List ℕ) (f : Front) → octets_held (front_step (Some pointer) before field all f) all ≡ []
+not_past_start : (pointer before : ℕ) (field all : List ℕ) (f : Front) → octets_held (front_continuation (Some pointer) before field all f) all ≡ []
 not_past_start pointer before field all f = grind arith
 
 none_kept : (count : Option ℕ) (held : List ℕ) (next : TmView) (pointer : ℕ) (octets : List ℕ) → next.field ≡ Packets (Some pointer) octets
-    → held_by (held_step count held next) held next ≡ []
+    → held_before_starts (held_continuation count held next) held next ≡ []
 none_kept count held next pointer octets is = grind (arith, not_past_start)
 
 -- the packets that start in the frame
@@ -65,14 +65,14 @@ held_at_rest : (view : TmView) (rest : List ℕ) → held_as (incomplete_in (fro
 held_at_rest view rest = grind (arith, rest_held)
 
 incomplete_in_field : (view : TmView) (field : DataField) (kept : List ℕ) → ((pointer : ℕ) (octets : List ℕ) → field ≡ Packets (Some pointer) octets → kept ≡ [])
-    → held_as (held_after field kept) ≡ held_as kept ++ field_incomplete view [] field
+    → held_as (held_at_field_end field kept) ≡ held_as kept ++ field_incomplete view [] field
 incomplete_in_field view field kept none = grind (arith, held_at_rest, incomplete_from_pointer, append-nil)
 
 held_by_frame : (count : Option ℕ) (held : List ℕ) (next : TmView)
-    → held_as (held_after next.field (held_by (held_step count held next) held next))
-    ≡ held_as (held_by (held_step count held next) held next) ++ frame_incomplete next []
+    → held_as (held_at_field_end next.field (held_before_starts (held_continuation count held next) held next))
+    ≡ held_as (held_before_starts (held_continuation count held next) held next) ++ frame_incomplete next []
 held_by_frame count held next =
-    incomplete_in_field next next.field (held_by (held_step count held next) held next) (λ pointer octets is. none_kept count held next pointer octets is)
+    incomplete_in_field next next.field (held_before_starts (held_continuation count held next) held next) (λ pointer octets is. none_kept count held next pointer octets is)
 
 -- ---- one more frame
 
@@ -122,13 +122,13 @@ seen_at old views states at vc d processed are eight fits same = grind (arith, g
 
 module _ (old : ExtractorState) (views : List TmView) (next : TmView) (states : List ChannelWithMemory) (at : ℕ) (d : ChannelWithMemory) where
   pub ended_now : HasProcessed old views → states ≡ old.channels → length states ≡ 8 → next.vc ≤ 7 → at ≡ next.vc
-      → ended_by views next ≡ packets_after (slice_index_or states at d).state next
+      → ended_by views next ≡ packets_ended (slice_index_or states at d).state next
   ended_now processed are eight fits same = grind (arith, common_steps, one_more_frame, seen_at)
 
   -- a step that hands over the packets of the state hands over those that end in the frame
   pub handed_now : {S : Type 0} {taking : S → ℕ → List ℕ → S → Type 0} {failing : S → ℕ → List ℕ → SinkFault → S → Type 0} {failures : S → ℕ}
       {sink sink' : S} {channel : ℕ} {result : Result StepReport FlowFault} → states ≡ old.channels → length states ≡ 8 → next.vc ≤ 7 → at ≡ next.vc
-      → HandsOver taking failing failures counts_of sink channel (packets_after (slice_index_or states at d).state next) result sink'
+      → HandsOver taking failing failures counts_of sink channel (packets_ended (slice_index_or states at d).state next) result sink'
       → HasProcessed old views → HandsOver taking failing failures counts_of sink channel (ended_by views next) result sink'
   handed_now are eight fits same handed processed = hands_same refl (sym (ended_now processed are eight fits same)) handed
 

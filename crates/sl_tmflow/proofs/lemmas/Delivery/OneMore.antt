@@ -12,7 +12,7 @@ use Rattle.sl_packet.proofs.FrontLemmas.{packet_is_whole}
 use Rattle.sl_tmframe.specs.TmFrame.{TmView, DataField, Packets, Idle, Opaque}
 use Rattle.sl_tmflow.specs.VirtualChannel.{packet_data}
 use Rattle.sl_tmflow.specs.PacketStart.{starts_from, starts_of, whole_packets}
-use Rattle.sl_tmflow.specs.Delivery.{Delivery, Outcome, Completes, StillIncomplete, Undelivered, Continuation, Ends, Continues, Breaks, ended, step_of, after_step, outcome_after, outcome_of_front, outcome_of, delivery_of, frame_deliveries, deliveries_from, ending_in, packets_delivered, packets_ending}
+use Rattle.sl_tmflow.specs.Delivery.{Delivery, Outcome, Completes, StillIncomplete, Undelivered, Continuation, Ends, Continues, Breaks, ended, continuation_of, outcome_of_continuation, outcome_after, outcome_of_front, outcome_of, delivery_of, frame_deliveries, deliveries_from, ending_in, packets_delivered, packets_ending}
 use Rattle.sl_tmflow.specs.Incomplete.{incomplete_octets, frame_incomplete, incomplete_of}
 use Rattle.sl_tmflow.proofs.lemmas.Incomplete.After.{last_of, last_of-push}
 use Rattle.sl_tmflow.proofs.lemmas.Delivery.Outcome.{outcome_delivered}
@@ -24,11 +24,11 @@ use Rattle.sl_tmflow.proofs.lemmas.Delivery.Start.{flat_map-pieces, at_rest, at_
 -- the outcome of a packet start with one more frame, `passed` frames after the start
 abbrev pub with_next : ℕ → TmView → TmView → Outcome → Outcome
 with_next passed last next (Completes packet n) = Completes packet n
-with_next passed last next (StillIncomplete octets) = after_step (step_of last octets next) passed (StillIncomplete (octets ++ packet_data next))
+with_next passed last next (StillIncomplete octets) = outcome_of_continuation (continuation_of last octets next) passed (StillIncomplete (octets ++ packet_data next))
 with_next passed last next Undelivered = Undelivered
 
 with_next-step : (step : Continuation) (n passed : ℕ) (last next : TmView) (outcome : Outcome)
-    → after_step step n (with_next passed last next outcome) ≡ with_next passed last next (after_step step n outcome)
+    → outcome_of_continuation step n (with_next passed last next outcome) ≡ with_next passed last next (outcome_of_continuation step n outcome)
 with_next-step step n passed last next outcome = grind arith
 
 outcome_after-push : (n : ℕ) (view : TmView) (octets : List ℕ) (later : List TmView) (next : TmView) (passed : ℕ) → n + (length later + 1) ≡ passed
@@ -54,7 +54,7 @@ carried Breaks octets = []
 
 -- an incomplete packet after the next frame, if it goes on
 abbrev pub carried_into : TmView → TmView → List ℕ → List (List ℕ)
-carried_into last next octets = carried (step_of last octets next) (octets ++ packet_data next)
+carried_into last next octets = carried (continuation_of last octets next) (octets ++ packet_data next)
 
 incomplete_with_next : (passed : ℕ) (last next : TmView) (outcome : Outcome) → flat_map (carried_into last next) (incomplete_octets outcome) ≡ incomplete_octets (with_next passed last next outcome)
 incomplete_with_next passed last next outcome = grind arith
@@ -132,10 +132,10 @@ at_last_frame frame view = ap (packets_at frame) (append-nil (frame_deliveries f
 
 -- an incomplete packet that ends in the next frame
 abbrev pub ended_by_next : TmView → TmView → List ℕ → List (List ℕ)
-ended_by_next last next octets = ended (step_of last octets next)
+ended_by_next last next octets = ended (continuation_of last octets next)
 
 step_ending : (number frame start : ℕ) (s : Continuation) (passed : ℕ) (octets : List ℕ) → frame + passed ≡ number
-    → packets_at number (delivery_of frame start (after_step s passed (StillIncomplete octets))) ≡ ended s ++ []
+    → packets_at number (delivery_of frame start (outcome_of_continuation s passed (StillIncomplete octets))) ≡ ended s ++ []
 step_ending number frame start s passed octets here = grind (arith, eq-eqb)
 
 -- a packet that ended earlier doesn't end in the next frame

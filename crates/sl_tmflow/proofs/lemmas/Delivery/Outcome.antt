@@ -8,7 +8,7 @@ use Rattle.sl_packet.specs.Front.{Front, OtherVersion, Incomplete, WholePacket, 
 use Rattle.sl_packet.proofs.FrontLemmas.{whole_is_a_packet, packet_is_whole}
 use Rattle.sl_tmframe.specs.TmFrame.{TmView, DataField, Packets, Idle, Opaque}
 use Rattle.sl_tmflow.specs.VirtualChannel.{is_consecutive, packet_data, data_of, reassembly}
-use Rattle.sl_tmflow.specs.Delivery.{agreeing_pointer, IsDeliveredBy, Outcome, Completes, Continuation, Ends, Continues, step_of, after_step, outcome_after, outcome_of_front, outcome_of}
+use Rattle.sl_tmflow.specs.Delivery.{agreeing_pointer, IsDeliveredBy, Outcome, Completes, Continuation, Ends, Continues, continuation_of, outcome_of_continuation, outcome_after, outcome_of_front, outcome_of}
 use Rattle.sl_tmflow.specs.Incomplete.{HasNoStart}
 use Rattle.sl_fields.proofs.ListLemmas.{each-among, each-append}
 use Rattle.sl_tmflow.proofs.lemmas.Places.{some_element, has_last, cases_last}
@@ -71,7 +71,7 @@ pub record IsDeliveredWithin (view : TmView) (octets : List ℕ) (later : List T
   pub delivered : IsDeliveredBy view octets run packet
 
 -- a step to a delivery: the packet ends here, or it goes on and ends later
-pub delivered_step : (s : Continuation) (passed : ℕ) (rest : Outcome) (packet : List ℕ) (n : ℕ) → after_step s passed rest ≡ Completes packet n
+pub delivered_step : (s : Continuation) (passed : ℕ) (rest : Outcome) (packet : List ℕ) (n : ℕ) → outcome_of_continuation s passed rest ≡ Completes packet n
     → ((s ≡ Ends packet) × (passed ≡ n)) ⊎ ((s ≡ Continues) × (rest ≡ Completes packet n))
 delivered_step s passed rest packet n completes = grind arith
 
@@ -82,7 +82,7 @@ delivered_after first start run passed view octets [] packet n held counted comp
 delivered_after first start run passed view octets (next ∷ later) packet n held counted completes =
     let rest = outcome_after (passed + 1) next (octets ++ packet_data next) later in
     let one_more : passed + 1 ≡ length (run ++ next ∷ []) = omega (arith, length_push run next) in
-    elim (delivered_step (step_of view octets next) (passed + 1) rest packet n completes) [
+    elim (delivered_step (continuation_of view octets next) (passed + 1) rest packet n completes) [
       | inl here ↦
           let (consecutive, ending) = step_ends view octets next packet here.0 in
           record {
@@ -205,11 +205,11 @@ delivered_goes_on view octets next second run packet delivered =
 pub delivered_outcome_after : (passed : ℕ) (view : TmView) (octets : List ℕ) (next : TmView) (run after : List TmView) (packet : List ℕ)
     → IsDeliveredBy view octets (next ∷ run) packet → outcome_after passed view octets (next ∷ run ++ after) ≡ Completes packet (passed + length (next ∷ run))
 delivered_outcome_after passed view octets next [] after packet delivered =
-    ap (λ s. after_step s (passed + 1) (outcome_after (passed + 1) next (octets ++ packet_data next) after))
+    ap (λ s. outcome_of_continuation s (passed + 1) (outcome_after (passed + 1) next (octets ++ packet_data next) after))
     (ends_step view octets next packet delivered.consecutive.0 (delivered_ends view octets next packet delivered))
 delivered_outcome_after passed view octets next (second ∷ run) after packet delivered =
     let counted : passed + 1 + length (second ∷ run) ≡ passed + length (next ∷ second ∷ run) = omega arith in
-    ap (λ s. after_step s (passed + 1) (outcome_after (passed + 1) next (octets ++ packet_data next) (second ∷ run ++ after)))
+    ap (λ s. outcome_of_continuation s (passed + 1) (outcome_after (passed + 1) next (octets ++ packet_data next) (second ∷ run ++ after)))
     (continues_step view octets next delivered.consecutive.0 (delivered_goes_on view octets next second run packet delivered))
     ∙ delivered_outcome_after (passed + 1) next (octets ++ packet_data next) second run after packet (delivered_tail view octets next (second ∷ run) packet delivered)
     ∙ ap (Completes packet) counted

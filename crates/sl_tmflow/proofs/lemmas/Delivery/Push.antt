@@ -10,7 +10,7 @@ use Rattle.sl_packet.proofs.FrontLemmas.{packet_is_whole}
 use Rattle.sl_tmframe.specs.TmFrame.{TmView, DataField, Packets, Idle, Opaque}
 use Rattle.sl_tmflow.specs.VirtualChannel.{data_of, packet_data}
 use Rattle.sl_tmflow.specs.PacketStart.{starts_from, starts_of, whole_packets}
-use Rattle.sl_tmflow.specs.Delivery.{Delivery, Outcome, Completes, StillIncomplete, Undelivered, Continuation, ended, step_of, outcome_of_front, outcome_of, delivery_of, frame_deliveries, deliveries_from, packets_delivered, packets_ending, PacketsEndOnce}
+use Rattle.sl_tmflow.specs.Delivery.{Delivery, Outcome, Completes, StillIncomplete, Undelivered, Continuation, ended, continuation_of, outcome_of_front, outcome_of, delivery_of, frame_deliveries, deliveries_from, packets_delivered, packets_ending, PacketsEndOnce}
 use Rattle.sl_tmflow.specs.Incomplete.{HasNoStart, incomplete_octets, frame_incomplete, incomplete_of}
 use Rattle.sl_tmflow.proofs.lemmas.Delivery.Start.{flat_map-pieces, at_rest, at_starts, no_starts}
 use Rattle.sl_packet.proofs.CountLemmas.{split_count, packets_within}
@@ -160,7 +160,7 @@ pub ended_few : (channel : List TmView) (next : TmView) → length (packets_endi
 ended_few [] next = omega (arith, ap length (ending_first next), whole_few next.field)
 ended_few (view ∷ later) next =
     let (before, last, same) = has_last view later in
-    let few = few_each (ended_by_next last next) (λ octets. step_few (step_of last octets next)) (incomplete_of (before ++ last ∷ [])) in
+    let few = few_each (ended_by_next last next) (λ octets. step_few (continuation_of last octets next)) (incomplete_of (before ++ last ∷ [])) in
     omega (
       arith,
       ap length (ap (λ l. packets_ending l next) same ∙ ending_next before last next),

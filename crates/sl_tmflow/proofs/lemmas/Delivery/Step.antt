@@ -8,7 +8,7 @@ use Rattle.sl_packet.specs.Front.{Front, Incomplete, WholePacket, front_of}
 use Rattle.sl_packet.proofs.FrontLemmas.{whole_is_a_packet, packet_is_whole, foreign_is_no_packet, incomplete_may_become_whole}
 use Rattle.sl_tmframe.specs.TmFrame.{TmView, DataField, Packets, Idle, Opaque}
 use Rattle.sl_tmflow.specs.VirtualChannel.{is_consecutive, data_of}
-use Rattle.sl_tmflow.specs.Delivery.{agreeing_pointer, Ends, Continues, Breaks, front_step, field_step, step_of}
+use Rattle.sl_tmflow.specs.Delivery.{agreeing_pointer, Ends, Continues, Breaks, front_continuation, field_continuation, continuation_of}
 
 -- ---- octets that begin a packet
 
@@ -60,11 +60,11 @@ ends_test b whole packet ends = grind arith
 no_end : (first : Option ℕ) (packet : List ℕ) → (if is_some first then Breaks else Continues) ≡ Ends packet → ⊥
 no_end first packet ends = grind arith
 
-front_ends : (first : Option ℕ) (before : ℕ) (field all : List ℕ) (f : Front) (packet : List ℕ) → front_step first before field all f ≡ Ends packet
+front_ends : (first : Option ℕ) (before : ℕ) (field all : List ℕ) (f : Front) (packet : List ℕ) → front_continuation first before field all f ≡ Ends packet
     → (len : ℕ) × (f ≡ WholePacket len) × (first ≡ agreeing_pointer len before field) × (take len all ≡ packet)
 front_ends first before field all f packet ends = grind (arith, no_end, ends_test, eqb-true)
 
-pub field_ends : (octets : List ℕ) (field : DataField) (packet : List ℕ) → field_step octets field ≡ Ends packet → EndsIn octets field packet
+pub field_ends : (octets : List ℕ) (field : DataField) (packet : List ℕ) → field_continuation octets field ≡ Ends packet → EndsIn octets field packet
 field_ends octets (Packets first carried) packet is_end =
     let (len, is_whole, agrees, packet_is) = front_ends first (length octets) carried (octets ++ carried) (front_of (octets ++ carried)) packet is_end in
     let whole = whole_is_a_packet (octets ++ carried) len is_whole in
@@ -80,29 +80,29 @@ field_ends octets (Packets first carried) packet is_end =
 field_ends octets Idle packet is_end = absurd (cc)
 field_ends octets Opaque packet is_end = absurd (cc)
 
-pub ends_field : (octets : List ℕ) (field : DataField) (packet : List ℕ) → EndsIn octets field packet → field_step octets field ≡ Ends packet
+pub ends_field : (octets : List ℕ) (field : DataField) (packet : List ℕ) → EndsIn octets field packet → field_continuation octets field ≡ Ends packet
 ends_field octets field packet ending = grind (arith, packet_is_whole, take_at, eq-eqb)
 
 no_pointer : (first : Option ℕ) → (if is_some first then Breaks else Continues) ≡ Continues → first ≡ None
 no_pointer first continues = grind arith
 
-front_continues : (first : Option ℕ) (before : ℕ) (field all : List ℕ) (f : Front) → front_step first before field all f ≡ Continues
+front_continues : (first : Option ℕ) (before : ℕ) (field all : List ℕ) (f : Front) → front_continuation first before field all f ≡ Continues
     → (f ≡ Incomplete) × (first ≡ None)
 front_continues first before field all f continues = grind (arith, no_pointer)
 
 -- the next frame is consecutive where its step isn't a break
-pub step_ends : (view : TmView) (octets : List ℕ) (next : TmView) (packet : List ℕ) → step_of view octets next ≡ Ends packet
+pub step_ends : (view : TmView) (octets : List ℕ) (next : TmView) (packet : List ℕ) → continuation_of view octets next ≡ Ends packet
     → (is_consecutive view next ≡ true) × EndsIn octets next.field packet
 step_ends view octets next packet ends = grind (arith, common_steps, field_ends)
 
 pub ends_step : (view : TmView) (octets : List ℕ) (next : TmView) (packet : List ℕ) → is_consecutive view next ≡ true → EndsIn octets next.field packet
-    → step_of view octets next ≡ Ends packet
+    → continuation_of view octets next ≡ Ends packet
 ends_step view octets next packet consecutive ending = grind (arith, common_steps, ends_field)
 
-pub step_continues : (view : TmView) (octets : List ℕ) (next : TmView) → front_of octets ≡ Incomplete → step_of view octets next ≡ Continues
+pub step_continues : (view : TmView) (octets : List ℕ) (next : TmView) → front_of octets ≡ Incomplete → continuation_of view octets next ≡ Continues
     → (is_consecutive view next ≡ true) × GoesOnPast octets next.field
 step_continues view octets next incomplete continues = grind (arith, front_continues, append-nil)
 
 pub continues_step : (view : TmView) (octets : List ℕ) (next : TmView) → is_consecutive view next ≡ true → GoesOnPast octets next.field
-    → step_of view octets next ≡ Continues
+    → continuation_of view octets next ≡ Continues
 continues_step view octets next consecutive past = grind arith

@@ -14,7 +14,7 @@ use Rattle.sl_packet.proofs.PacketsLemmas.{packets_of-packet, rest_of-packet, pa
 use Rattle.sl_tmframe.specs.PacketFrame.{packet_view}
 use Rattle.sl_tmframe.specs.TmFrame.{TmView, Packets}
 use Rattle.sl_tmflow.specs.VirtualChannel.{follows, packet_data}
-use Rattle.sl_tmflow.specs.Delivery.{agreeing_pointer, after_step, outcome_after, outcome_of_front, outcome_of, frame_deliveries, deliveries_from, deliveries_of, packets_delivered}
+use Rattle.sl_tmflow.specs.Delivery.{agreeing_pointer, outcome_of_continuation, outcome_after, outcome_of_front, outcome_of, frame_deliveries, deliveries_from, deliveries_of, packets_delivered}
 use Rattle.sl_tmflow.specs.NormalForm.{data_field_of, first_of}
 use Rattle.sl_tmflow.specs.PacketStart.{packet_offsets}
 use Rattle.sl_tmflow.proofs.lemmas.Delivery.Start.{at_rest}
@@ -122,13 +122,13 @@ module _ (room vc mc : ℕ) (packets : List (List ℕ)) where
             let parts : (so_far ++ take room more) ++ drop room more ≡ so_far ++ more =
             append_assoc so_far (take room more) (drop room more) ∙ ap (λ l. so_far ++ l) (take-append-drop room more) in
             let rest : 0 < length (drop room more) = omega (arith, length-drop room more, long) in
-            ap (λ c. completed_packet (after_step c (passed + 1) later)) (continues_step view so_far here next (goes_on_here number so_far more todo count some is_packet long cut))
+            ap (λ c. completed_packet (outcome_of_continuation c (passed + 1) later)) (continues_step view so_far here next (goes_on_here number so_far more todo count some is_packet long cut))
             ∙ ap (λ l. completed_packet (outcome_after (passed + 1) here (so_far ++ l) (views_from (number + 1) count))) all_is
             ∙ put_together count (number + 1) (passed + 1) here (so_far ++ take room more) (drop room more) todo some (next_count number)
             (subst IsPacket (sym parts) is_packet) rest (past_covered room packets number more todo count covered cut)
             ∙ ap (λ l. l ∷ []) parts
         | inr (test, short) ↦
-            ap (λ c. completed_packet (after_step c (passed + 1) later))
+            ap (λ c. completed_packet (outcome_of_continuation c (passed + 1) later))
             (ends_step view so_far here (so_far ++ more) next (ends_here number so_far more todo count some is_packet (omega (arith, short)) cut))
       ]
 

@@ -15,8 +15,8 @@ use Rattle.sl_packet.specs.Delivered.{IsDeliverable}
 use Rattle.sl_packet.specs.IdlePacket.{idle_packet}
 use Rattle.sl_tmframe.specs.PacketFrame.{field_room_of}
 use Rattle.sl_tmframe.specs.TmFrame.{TmFormat}
-use Rattle.sl_tmflow.specs.Form.{beyond_fields, channel_left, field_frames, fields_in, filled_up, form_left, form_of, filled_frames, heading_after, lists_left, next_channel, start_after}
-use Rattle.sl_tmflow.specs.NormalForm.{channel_frame, channel_frames, fill_of, filling, frames_from_channel, with_filling}
+use Rattle.sl_tmflow.specs.Form.{beyond_fields, channel_left, field_frames, fields_in, filled_up, form_left, filled_frames, heading_after, lists_left, next_channel, start_after}
+use Rattle.sl_tmflow.specs.NormalForm.{channel_frame, channel_frames, fill_of, filling, frames_from_channel, normal_form, with_filling}
 use Rattle.sl_tmflow.specs.FormModel.{IsTmForm, octets_to_come}
 use Rattle.sl_tmflow.specs.declared.form.Heading.{Heading}
 use Rattle.sl_tmflow.specs.declared.form.TmForm.TheInside.{Inside}
@@ -204,7 +204,7 @@ from_channel format spacecraft wide short (packets ∷ lists) vc before master i
 
 -- where nothing is made, the normal form is still to come
 pub all_left : (format : TmFormat) (spacecraft : ℕ) (lists : List (List (List ℕ))) → 7 ≤ field_room_of format → field_room_of format ≤ 65536
-    → form_left format (record { spacecraft = spacecraft; vc = 0; mc_count = 0; vc_count = 0 }) 0 [] (slice_index_or lists 0 []) (drop 1 (take 8 lists)) ≡ form_of format spacecraft lists
+    → form_left format (record { spacecraft = spacecraft; vc = 0; mc_count = 0; vc_count = 0 }) 0 [] (slice_index_or lists 0 []) (drop 1 (take 8 lists)) ≡ normal_form format spacecraft (take 8 lists)
 unfolding form_left
 all_left format spacecraft [] wide short = refl
 all_left format spacecraft (packets ∷ lists) wide short = from_channel format spacecraft wide short (take 8 (packets ∷ lists)) 0 0 0 refl
@@ -257,7 +257,7 @@ none_from format spacecraft [] vc before none = refl
 none_from format spacecraft (packets ∷ lists) vc before none =
     rw (none 0 (omega arith), no_frames format spacecraft vc before) (none_from format spacecraft lists (vc + 1) (before + 0) (λ channel below. none (suc channel) (omega (arith, below))))
 
-pub none_at_all : (format : TmFormat) (spacecraft : ℕ) (lists : List (List (List ℕ))) → ((channel : ℕ) → channel < 8 → slice_index_or lists channel [] ≡ []) → form_of format spacecraft lists ≡ []
+pub none_at_all : (format : TmFormat) (spacecraft : ℕ) (lists : List (List (List ℕ))) → ((channel : ℕ) → channel < 8 → slice_index_or lists channel [] ≡ []) → normal_form format spacecraft (take 8 lists) ≡ []
 none_at_all format spacecraft lists none =
     none_from format spacecraft (take 8 lists) 0 0 (λ channel below.
     let inside : channel < 8 = omega (arith, length-take 8 lists, below) in

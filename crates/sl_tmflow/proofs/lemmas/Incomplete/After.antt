@@ -6,7 +6,7 @@ use Rattle.std.proofs.lemmas.List.Folds.{concat-append}
 use Rattle.sl_packet.specs.Front.{Front, OtherVersion, Incomplete, WholePacket, front_of}
 use Rattle.sl_tmframe.specs.TmFrame.{TmView, Opaque}
 use Rattle.sl_tmflow.specs.VirtualChannel.{is_consecutive, AreConsecutive, packet_data, reassembly}
-use Rattle.sl_tmflow.specs.Delivery.{Outcome, StillIncomplete, Continuation, Ends, Continues, Breaks, step_of, after_step, outcome_after, outcome_of_front, outcome_of}
+use Rattle.sl_tmflow.specs.Delivery.{Outcome, StillIncomplete, Continuation, Ends, Continues, Breaks, continuation_of, outcome_of_continuation, outcome_after, outcome_of_front, outcome_of}
 use Rattle.sl_tmflow.specs.Incomplete.{HasNoStart}
 use Rattle.sl_fields.proofs.ListLemmas.{each-append}
 use Rattle.sl_tmflow.proofs.lemmas.Delivery.Step.{GoesOnPast, step_continues, continues_step, incomplete_before}
@@ -84,7 +84,7 @@ is_incomplete_one_more view octets run last so_far next held test past =
 
 -- ---- the outcome of an incomplete packet
 
-incomplete_step : (s : Continuation) (passed : ℕ) (rest : Outcome) (so_far : List ℕ) → after_step s passed rest ≡ StillIncomplete so_far → (s ≡ Continues) × (rest ≡ StillIncomplete so_far)
+incomplete_step : (s : Continuation) (passed : ℕ) (rest : Outcome) (so_far : List ℕ) → outcome_of_continuation s passed rest ≡ StillIncomplete so_far → (s ≡ Continues) × (rest ≡ StillIncomplete so_far)
 incomplete_step (Ends packet) passed rest so_far still = absurd (cc)
 incomplete_step Continues passed rest so_far still = (refl, still)
 incomplete_step Breaks passed rest so_far still = absurd (cc)
@@ -97,7 +97,7 @@ outcome_to_incomplete passed first start run view octets [] so_far held still =
     let same : octets ≡ so_far = cc in
     rw (append-nil run) (rw (← same) held)
 outcome_to_incomplete passed first start run view octets (next ∷ later) so_far held still =
-    let (goes_on, rest) = incomplete_step (step_of view octets next) (passed + 1) (outcome_after (passed + 1) next (octets ++ packet_data next) later) so_far still in
+    let (goes_on, rest) = incomplete_step (continuation_of view octets next) (passed + 1) (outcome_after (passed + 1) next (octets ++ packet_data next) later) so_far still in
     let (consecutive, past) = step_continues view octets next held.incomplete goes_on in
     let now = is_incomplete_one_more first start run view octets next held consecutive past in
     rw (← append_assoc run (next ∷ []) later)
@@ -122,7 +122,7 @@ incomplete_to_outcome passed view octets (next ∷ later) last so_far held =
       no_start = held.no_start.1;
       incomplete = held.incomplete;
     } in
-    ap (λ s. after_step s (passed + 1) (outcome_after (passed + 1) next (octets ++ packet_data next) later)) (continues_step view octets next held.consecutive.0 past)
+    ap (λ s. outcome_of_continuation s (passed + 1) (outcome_after (passed + 1) next (octets ++ packet_data next) later)) (continues_step view octets next held.consecutive.0 past)
     ∙ incomplete_to_outcome (passed + 1) next (octets ++ packet_data next) later last so_far rest
 
 front_incomplete : (f : Front) (view : TmView) (octets : List ℕ) (later : List TmView) (so_far : List ℕ) → outcome_of_front f view octets later ≡ StillIncomplete so_far

@@ -7,7 +7,7 @@ use Rattle.sl_tmframe.specs.TmFrame.{TmView, Packets}
 use Rattle.sl_tmflow.specs.Among.{IsAmong}
 use Rattle.sl_tmflow.specs.Anomaly.{IsBrokenOff, broken_octets, frame_broken, broken_off, EachListedIsBrokenOff, EachBrokenOffIsListed, OneIsBrokenOff, BrokenOffIsShort, BrokenOffIsTold, WhatIsToldIsBrokenOff}
 use Rattle.sl_tmflow.specs.VirtualChannel.{packet_data}
-use Rattle.sl_tmflow.specs.Delivery.{Delivery, IsDelivery, Outcome, Completes, StillIncomplete, Undelivered, Continuation, Ends, Continues, Breaks, step_of, after_step, outcome_of}
+use Rattle.sl_tmflow.specs.Delivery.{Delivery, IsDelivery, Outcome, Completes, StillIncomplete, Undelivered, Continuation, Ends, Continues, Breaks, continuation_of, outcome_of_continuation, outcome_of}
 use Rattle.sl_tmflow.specs.Incomplete.{IsIncompleteAt, IsShort, incomplete_octets, frame_incomplete, incomplete_of}
 use Rattle.sl_tmflow.specs.PacketStart.{IsStart, starts_of}
 use Rattle.sl_tmflow.proofs.lemmas.Delivery.Start.{flat_map-pieces, each_found, found_among}
@@ -84,7 +84,7 @@ lost Continues octets = []
 lost Breaks octets = octets ∷ []
 
 abbrev pub lost_in : TmView → TmView → List ℕ → List (List ℕ)
-lost_in last next octets = lost (step_of last octets next) octets
+lost_in last next octets = lost (continuation_of last octets next) octets
 
 -- a packet that was incomplete ends in the next frame, if it is delivered then
 ends_next : (view : TmView) (start : ℕ) (later : List TmView) (next : TmView) (octets packet : List ℕ) (passed : ℕ)
@@ -92,9 +92,9 @@ ends_next : (view : TmView) (start : ℕ) (later : List TmView) (next : TmView) 
 ends_next view start later next octets packet passed before after =
     let last = last_of view later in
     let rest = StillIncomplete (octets ++ packet_data next) in
-    let e : after_step (step_of last octets next) (length later + 1) rest ≡ Completes packet passed =
+    let e : outcome_of_continuation (continuation_of last octets next) (length later + 1) rest ≡ Completes packet passed =
     sym (outcome_of-push view (drop start (packet_data view)) later next ∙ ap (with_next (length later + 1) last next) before) ∙ after in
-    elim (delivered_step (step_of last octets next) (length later + 1) rest packet passed e) [
+    elim (delivered_step (continuation_of last octets next) (length later + 1) rest packet passed e) [
       | inl here ↦ here.1
       | inr there ↦ absurd (let both : rest ≡ Completes packet passed = there.1 in cc)
     ]
@@ -154,7 +154,7 @@ pub one_is_broken_off : OneIsBrokenOff
 one_is_broken_off [] next = omega arith
 one_is_broken_off (view ∷ later) next =
     let (before, last, same) = has_last view later in
-    let few = few_each (lost_in last next) (λ octets. one_lost (step_of last octets next) octets) (incomplete_of (before ++ last ∷ [])) in
+    let few = few_each (lost_in last next) (λ octets. one_lost (continuation_of last octets next) octets) (incomplete_of (before ++ last ∷ [])) in
     omega (arith, ap (λ l. length (broken_off l next)) same, ap length (broken_next before last next), few, one_is_incomplete (before ++ last ∷ []))
 
 -- ---- broken-off packets are short

@@ -6,7 +6,7 @@ use Rattle.sl_packet.specs.Front.{Incomplete, WholePacket, front_of}
 use Rattle.sl_packet.specs.Partial.{ForeignIsForeign, WholeIsWhole, OctetsMakeAPacket, need_of}
 use Rattle.sl_packet.specs.declared.partial.Need.TheVariants.{Foreign, Octets, Whole}
 use Rattle.sl_packet.proofs.FrontLemmas.{whole_is_a_packet, packet_is_whole, foreign_is_no_packet}
-use Rattle.sl_tmflow.specs.Delivery.{front_step}
+use Rattle.sl_tmflow.specs.Delivery.{front_continuation}
 use Rattle.sl_tmflow.specs.Progress.{IsEnough}
 use Rattle.sl_tmflow.proofs.lemmas.Incomplete.List.{stated_packet_len-most}
 use Rattle.sl_tmflow.proofs.lemmas.Delivery.Step.{incomplete_before}
@@ -19,12 +19,12 @@ whole_stays octets more len whole = grind (arith, common_steps, whole_is_a_packe
 
 -- where a packet is whole, the octets after it don't matter
 packet_same : (first : Option ℕ) (before : ℕ) (field a b : List ℕ) (len : ℕ) → take len a ≡ take len b
-    → front_step first before field a (WholePacket len) ≡ front_step first before field b (WholePacket len)
+    → front_continuation first before field a (WholePacket len) ≡ front_continuation first before field b (WholePacket len)
 packet_same first before field a b len same = grind arith
 
 -- octets that aren't incomplete decide the step, whatever follows
 told : (first : Option ℕ) (before : ℕ) (field octets more : List ℕ) → (front_of octets ≡ Incomplete → ⊥)
-    → front_step first before field octets (front_of octets) ≡ front_step first before field (octets ++ more) (front_of (octets ++ more))
+    → front_continuation first before field octets (front_of octets) ≡ front_continuation first before field (octets ++ more) (front_of (octets ++ more))
 told first before field octets more begun = grind (arith, common_steps, whole_is_a_packet, packet_same, take-append-le, whole_stays, incomplete_before, foreign_is_no_packet, take-append-drop)
 
 -- ---- octets of a data field
@@ -33,9 +33,9 @@ told first before field octets more begun = grind (arith, common_steps, whole_is
 pub some_is_enough : (held field : List ℕ) (n : ℕ) → (front_of (held ++ take n field) ≡ Incomplete → ⊥) → length held + length (take n field) ≤ 65542
     → IsEnough held field (take n field)
 some_is_enough held field n begun fits = record {
-  step = λ first.
+  continuation = λ first.
       told first (length held) field (held ++ take n field) (drop n field) begun
-      ∙ ap (λ l. front_step first (length held) field l (front_of l)) (append_assoc held (take n field) (drop n field) ∙ ap (λ l. held ++ l) (take-append-drop n field));
+      ∙ ap (λ l. front_continuation first (length held) field l (front_of l)) (append_assoc held (take n field) (drop n field) ∙ ap (λ l. held ++ l) (take-append-drop n field));
   all = λ incomplete. absurd (begun incomplete);
   fits = fits;
 }

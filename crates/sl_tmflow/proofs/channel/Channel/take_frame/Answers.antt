@@ -15,6 +15,6 @@ returns-in-Err-take_starts-clause-hands_over g c =
 pub returns-clause-hands_over : goal.returns-clause-hands_over
 returns-clause-hands_over g c =
     hands_both
-    (ap₂ (λ (a b : StepReport). a.packets + b.packets) c.ended.view_is c.begun.view_is)
-    (ap₂ (λ (a b : StepReport). a.idle + b.idle) c.ended.view_is c.begun.view_is) c.in-Ok.ensures.hands_over
+    (ap₂ (λ (a b : StepReport). a.packets + b.packets) c.continued.view_is c.started.view_is)
+    (ap₂ (λ (a b : StepReport). a.idle + b.idle) c.continued.view_is c.started.view_is) c.in-Ok.ensures.hands_over
     (hands_same (c.from.ensures ∙ c.vc.ensures.value) (ap whole_packets c.field.ensures.value) c.in-Ok-take_starts.ensures.hands_over)

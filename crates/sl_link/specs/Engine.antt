@@ -73,13 +73,13 @@ module _ {R W : Type 0} (remaining : R → Option (List ℕ)) (contents : W → 
       (engine_counts engine.0 engine.1 managed) managed.max_octets
 
   -- A fault stopped the engine. A listing of frames needs no memory. A normal form is written once all is read: at
-  -- `Write` all was read, and at any other fault nothing is written. (The program's `run` has this record in its
-  -- contract too, which has no clause `memory`. It flushes the writer after the engine, and a flush that fails counts
-  -- as `Write`.)
+  -- `Write` all was read, and at any other fault nothing is written. The program's `run` has this record in its
+  -- contract too. It flushes the writer after the engine, and a flush that fails counts as `Write`.
   pub record IsStoppedBy (reader reader' : Counted R) (writer writer' : Counted W) (engine : Engine)
       (managed : Parameters) (fault : LinkFault) : Type 0 where
     pub cause : Stops remaining contents reader reader' writer writer'
         (engine_text engine.0 engine.1 managed) managed.max_octets chunk_size fault
+    -- for `run`, which has no clause `memory` as `run_engine` has
     pub not_memory : engine.0 ≡ Show → fault ≢ Memory
     pub all_read : engine.0 ≡ Normalise → fault ≡ Write → IsRead remaining reader'
     pub nothing : engine.0 ≡ Normalise → fault ≢ Write → writer' ≡ writer

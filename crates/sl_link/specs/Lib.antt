@@ -8,9 +8,9 @@ pub mod Program
 pub mod Same
 pub mod Tally
 pub mod Verbs
--- Definitions of other crates that the public contracts rest on, for a crate that stands on this one and doesn't name
--- those: it reaches them by this crate's name. The crates here name all that they import from, and want no line here. A
--- definition that such a crate misses may be added.
+-- Definitions of the crates below that the public contracts rest on. They are for a crate outside this repository whose
+-- line in crates.txt has this crate but not those below: it reaches these definitions by this crate's name, and what it
+-- misses may be added. The crates here list all that they import from, and need no line.
 -- Where files of two crates have one name, as `Recording` of the flow crates, one of them at most can be in the list.
 pub use Rattle.sl_cop.specs.Farm
 pub use Rattle.sl_cop.specs.FarmClcw

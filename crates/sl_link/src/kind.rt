@@ -116,6 +116,7 @@ impl Model for TmFound {
 #[derive(Clone, Copy)]
 pub struct TcFound {
     pub vc: u8,
+    /// The MAP of the frame's unit. 0 without segment headers, and where the frame carries no unit.
     pub map: u8,
     /// N(S), in a frame of type AD.
     pub ns: Option<u8>,
@@ -172,9 +173,9 @@ impl Deliverer for Extractor {
             Err(reason) => return Ok((SKIPPED, Err(reason))),
         };
         // A `match`, here and below: at this exit several clauses are owed for each list of earlier
-        // frames. With `?` each would want an answer that it hands on the same fault, as callers of
-        // `deliver` have it (lemma `passed_up` of proofs/lemmas/Link/Answers.antt); with `match`
-        // none does.
+        // frames. With `?` each of these clauses would need a proof that `?` passes the fault up
+        // unchanged, as in the functions that call `deliver` (lemma `passed_up` of
+        // proofs/lemmas/Link/Answers.antt). With `match` none does.
         let step = match self.frame(&view, sink) {
             Ok(step) => step,
             Err(fault) => return Err(fault),

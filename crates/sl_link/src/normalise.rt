@@ -36,7 +36,8 @@ use std::io::{Read, Write};
 /// It keeps these packets. While it reads, it also keeps what was read last, at most 65,536 octets,
 /// one frame at most that began in an earlier read, and the packet that is incomplete on each
 /// virtual channel. While it writes, it also keeps octets of the normal form that aren't written
-/// yet, at most 262,144. No clause says what is kept: that is seen by reading.
+/// yet, at most 262,144 (65,536 that wait, and room for a piece). No clause says what is kept: that
+/// is seen by reading.
 ///
 /// The fault is `Read` or `Write` where the reader or the writer had one, `TooLong` where more
 /// octets came than the managed limit, and `Memory` where memory was refused. Memory is refused
@@ -83,7 +84,8 @@ pub fn normalise_tm<R: Read, W: Write>(
 /// It keeps these packets. While it reads, it also keeps what was read last, at most 65,536 octets,
 /// one frame at most that began in an earlier read, the FARM-1 of 64 virtual channels, and the
 /// series that is incomplete on each MAP. While it writes, it also keeps octets of the normal form
-/// that aren't written yet, at most 262,144. No clause says what is kept: that is seen by reading.
+/// that aren't written yet, at most 262,144 (65,536 that wait, and room for a piece). No clause
+/// says what is kept: that is seen by reading.
 ///
 /// The fault is `Read` or `Write` where the reader or the writer had one, `TooLong` where more
 /// octets came than the managed limit, and `Memory` where memory was refused. Memory is refused
@@ -276,7 +278,8 @@ pub fn store_packets_in_memory<D: Deliverer, F: Framer>(
     requires none { F.waits framer.old managed.now [] }
     requires fits { (frame : List ℕ) → F.is_frame managed.now frame → D.is_frame managed.now frame }
     requires frames { F.frames_of managed.now ≡ (D.kind managed.now).frames_of }
-    // `AddsByChannel` holds of the kind; callers need it.
+    // `AddsByChannel` holds of the kind. A caller has no deliverer that could say so (`within`),
+    // and gets by it from what is stored to `packets_by_channel`.
     ensures all { IfOk result (λ stored. AddsByChannel (D.kind managed.now)
         × AreStored (D.kind managed.now) ((D.kind managed.now).frames_of recording.now)
         stored.lists) }
@@ -308,7 +311,8 @@ impl<D: Deliverer> FrameSink for Store<D> {
 
     ghost is_frame = { D.is_frame };
 
-    // What holds of the store, `now`, after these frames, whatever store it was at the `start`.
+    // What holds of the store, `now`, after these frames, whatever store it was at the `start`. It
+    // counts no anomalies: that is the 0.
     ghost took = { λ p start now frames. HasDelivered (D.kind p) (D.has_processed now.delivery p)
         frames 0 now.so_far × AreStored (D.kind p) frames now.delivered.lists };
 

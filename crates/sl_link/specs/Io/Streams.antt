@@ -107,8 +107,8 @@ module _ {R W : Type 0} (remaining : R → Option (List ℕ)) (contents : W → 
     pub reader_kept : faults_of reader' ≡ faults_of reader
     pub writer_kept : faults_of writer' ≡ faults_of writer
 
-  -- The same, and the totals are the counts of the same octets. Streams that don't report these
-  -- leave the totals open.
+  -- The same, and the totals are the counts of the same octets. Streams that don't report these leave the totals open.
+  -- An engine states `Translates` in a clause of its own too, so that what rests on that clause rests on no counts.
   pub record TranslatesWithTotals (reader reader' : Counted R) (writer writer' : Counted W) (text : List ℕ → List ℕ)
       (counts : List ℕ → Counts) (limit : ℕ) (totals : Counts) : Type 0 where
     pub translated : Translates reader reader' writer writer' text limit

@@ -1,6 +1,5 @@
--- A `TmFound` and a `TcFound` stand for what is found of a frame, field by field. No other crate can name these types,
--- and the definitions that public contracts rest on name none that is private: so they name the records `TmFinding` and
--- `TcFinding`, the models.
+-- A `TmFound` and a `TcFound` stand for what is found of a frame, field by field. No other crate can name these types:
+-- so the definitions that the engines' contracts rest on name the models, the records `TmFinding` and `TcFinding`.
 use Rattle.sl_link.specs.Kind.Tc.{TcFinding}
 use Rattle.sl_link.specs.Kind.Tm.{TmFinding}
 use Rattle.sl_link.specs.declared.kind.TcFound.TheInside as tc

@@ -243,7 +243,8 @@ plain_in rows = first_of (codes "plain") rows
 abbrev pub starts_in : List Row → Option Text
 starts_in rows = first_of (codes "vr-of") rows
 
--- Here and below, `Lists 0 text` lists numbers from 0 on, which rise.
+-- Here and below the 0 of `Lists` and `AreNamed` is the least virtual channel: those that the text names rise from it
+-- on, up to 63.
 
 -- The virtual channels of TC frames without segment headers, by the text of an option: none where
 -- it is left out. Else they are what the text lists; where the text is no list, it is refused (`None`).

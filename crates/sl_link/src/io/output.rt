@@ -29,6 +29,7 @@ impl<'a, W: Write> Output<'a, W> {
         ensures kept { OnOk result (Adds W.contents self.old [] self.new) }
         ensures room { OnOk result (HasRoom self.new.lines) }
         ensures lent { OnErr result (KeepsWriter self.old self.new) }
+        // The fault is never `Memory`: that is the ⊥, here and in other clauses.
         ensures fault { IfErr result
             (StopsWriting W.contents self.old.writer.now self.new.writer.now self.old.lines ⊥) }
     {

@@ -39,6 +39,7 @@ pub fn read_some<R: Read>(
 /// `Write`.
 pub fn write_text<W: Write>(writer: &mut Counted<W>, text: &[u8]) -> Result<(), LinkFault>
     ensures written { OnOk result (WritesText W.contents writer.old writer.new text.now) }
+    // The last argument of `StopsWriting` says when the fault may be `Memory`: never, by ⊥.
     ensures fault { IfErr result (StopsWriting W.contents writer.old writer.new text.now ⊥) }
 {
     let mut left = text;

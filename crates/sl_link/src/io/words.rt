@@ -1,4 +1,5 @@
-//! Lines and words that several verbs have.
+//! Lines and words that several verbs have. `number_width` is the room for a number and also for a
+//! word: no word here is longer than the longest number.
 ghost use Rattle.std.specs.Prelude.{◌≡◌, ◌+◌, ◌≤◌, ◌++◌, length, codes, decimal};
 ghost use Rattle.sl_fields.specs.Field.{bit_of};
 ghost use Rattle.sl_link.specs.Io.Words.{line_at, tc_skip_word, tm_skip_word, verdict_word};

@@ -14,8 +14,8 @@ use crate::link::fault::LinkFault;
 use std::alloc::Global;
 use std::io::Write;
 
-/// Octets enough for those that aren't written yet, `CHUNK_SIZE` at most, and a piece of either
-/// kind, for which 0x30000 are enough (`piece_size`).
+/// Octets enough for those that wait when a piece is added, `CHUNK_SIZE` at most, and for a piece
+/// of either kind, for which 0x30000 are enough (`piece_size`).
 const FORM_SIZE: usize = 0x40000;
 
 /// A normal form that is made piece by piece, so that it need not be held whole.
@@ -76,6 +76,8 @@ pub fn write_form<F: Form, W: Write>(
     if !form.next(&mut text)? {
         return Ok(());
     }
+    // This is room beyond the first piece, which may be longer than a chunk. Once that is written,
+    // a chunk at most waits when a piece is added.
     if text.reserve(FORM_SIZE).is_err() {
         return Err(LinkFault::Memory);
     }

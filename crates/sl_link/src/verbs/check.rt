@@ -71,7 +71,7 @@ impl<D: Checked> Verb for Check<D> {
 
     fn finish<W: Write>(
         &self,
-        managed: &Managed,
+        _managed: &Managed,
         octets: u64,
         out: &mut Output<W>,
     ) -> Result<Totals, LinkFault> {

@@ -27,6 +27,8 @@ pub trait Printed: Deliverer {
 
     /// How a line names the channel of its packet.
     fn channel_kind() -> ChannelKind
+        // With channels named so, `lines` are those of the packets that end in the frame, idle ones
+        // left out.
         ensures { (p : Parameters) → ArePrinted (Self.kind p) result (lines p) };
 }
 
@@ -60,7 +62,7 @@ pub struct ListPackets<D: Printed> {
 }
 
 impl<D: Printed> ListPackets<D> {
-    /// No packets yet.
+    /// No packets yet. In the clauses 0 is the number of anomalies: `packets` counts none.
     pub fn begin(alloc: Global, managed: &Managed) -> ListPackets<D>
         ensures { HasDelivered (D.kind managed.now) (D.has_processed result.delivery managed.now)
             [] 0 result.so_far }

@@ -82,12 +82,13 @@ impl Checked for Extractor {
     }
 
     fn open_lines(&self, offset: u64, channel: u16, lines: &mut Lines) -> u64 {
+        let vc = channel as u8;
         let at = AnomalyPlace {
             offset,
-            vc: u32::from(channel),
+            vc: u32::from(vc),
             map: None,
         };
-        let octets = self.held(channel as u8);
+        let octets = self.held(vc);
         event_lines(lines, at, b" open", octets > 0, Some(octets))
     }
 }

@@ -12,8 +12,9 @@ use crate::io::words::push_remainder;
 use crate::link::totals::Totals;
 
 /// Where an anomaly is: at a frame, or for `open` at the recording's end; on a virtual channel, and
-/// in a TC recording on a MAP. Both have the widest type that comes: a virtual channel may be the
-/// `u16` of a channel, and `push_some` adds a MAP or a number of octets.
+/// in a TC recording on a MAP. A MAP has the type of a number of octets, since `push_some` adds
+/// either. A virtual channel has it too: with a `u8`, `check` of TC frames takes 1.5 % more
+/// instructions.
 #[derive(Clone, Copy)]
 pub struct AnomalyPlace {
     pub offset: u64,

@@ -15,7 +15,7 @@ returns-in_err-make_room-clause-fault g c =
 
 pub returns-in_err-incomplete-clause-fault : goal.returns-in_err-incomplete-clause-fault
 returns-in_err-incomplete-clause-fault g c =
-    let p = c.args.managed.now in
+    let p = c.args._managed.now in
     let offset = c.octets-offset.result in
     passed_up _ _ c.from_residual-in_err-incomplete.ensures.1 (λ frames h.
     let inside : length (concat frames) ≤ c.args.octets = omega (arith, octets_counted h, octets_counted c.requires.1, c.requires.2) in
@@ -26,7 +26,7 @@ returns-in_err-incomplete-clause-fault g c =
 
 pub returns-in_err-make_room-2-clause-fault : goal.returns-in_err-make_room-2-clause-fault
 returns-in_err-make_room-2-clause-fault g c =
-    let p = c.args.managed.now in
+    let p = c.args._managed.now in
     let offset = c.octets-offset.result in
     passed_up _ _ c.from_residual-in_err-make_room-2.ensures.1 (λ frames h.
     let inside : length (concat frames) ≤ c.args.octets = omega (arith, octets_counted h, octets_counted c.requires.1, c.requires.2) in
@@ -37,14 +37,14 @@ returns-in_err-make_room-2-clause-fault g c =
 
 pub returns-clause-counts : goal.returns-clause-counts
 returns-clause-counts g c = λ frames h.
-    let p = c.args.managed.now in
+    let p = c.args._managed.now in
     let inside : length (concat frames) ≤ c.args.octets = omega (arith, octets_counted h, octets_counted c.requires.1, c.requires.2) in
     c.with_remainder-totals.ensures ∙ all_counted (g.D.Deliverer.kind p) (g.D.Checked.open_at p) frames c.octets-offset.result c.args.octets (c.octets-offset.ensures ∙ octets_counted h) inside (anomalies_by g.D.Checked.lines_of (g.D.Deliverer.found p)) h
     c.remainder_lines-remainders.ensures.number (c.in_ok-incomplete.ensures.number p frames h.processed)
 
 pub returns-clause-lines : goal.returns-clause-lines
 returns-clause-lines g c = λ frames h.
-    let p = c.args.managed.now in
+    let p = c.args._managed.now in
     let k = g.D.Deliverer.kind p in
     let offset = c.octets-offset.result in
     let inside : length (concat frames) ≤ c.args.octets = omega (arith, octets_counted h, octets_counted c.requires.1, c.requires.2) in

@@ -37,7 +37,7 @@ incomplete_is_no_packet octets packet is_packet incomplete prefix = grind (arith
 pub agreeing_none : (len before : ℕ) (field : List ℕ) → before + length field ≤ len → agreeing_pointer len before field ≡ None
 agreeing_none len before field covered = grind (arith, le-ltb)
 
--- ---- the three steps
+-- ---- the three continuations
 
 -- the packet ends in this data field, and the frame's pointer says so
 pub record EndsIn (octets : List ℕ) (field : DataField) (packet : List ℕ) : Type 0 where
@@ -90,7 +90,7 @@ front_continues : (first : Option ℕ) (before : ℕ) (field all : List ℕ) (f 
     → (f ≡ Incomplete) × (first ≡ None)
 front_continues first before field all f continues = grind (arith, no_pointer)
 
--- the next frame is consecutive where its step isn't a break
+-- the next frame is consecutive where the packet isn't broken off
 pub step_ends : (view : TmView) (octets : List ℕ) (next : TmView) (packet : List ℕ) → continuation_of view octets next ≡ Ends packet
     → (is_consecutive view next ≡ true) × EndsIn octets next.field packet
 step_ends view octets next packet ends = grind (arith, common_steps, field_ends)

@@ -22,7 +22,7 @@ packet_same : (first : Option ℕ) (before : ℕ) (field a b : List ℕ) (len : 
     → front_continuation first before field a (WholePacket len) ≡ front_continuation first before field b (WholePacket len)
 packet_same first before field a b len same = grind arith
 
--- octets that aren't incomplete decide the step, whatever follows
+-- octets that aren't incomplete decide the continuation, whatever follows
 told : (first : Option ℕ) (before : ℕ) (field octets more : List ℕ) → (front_of octets ≡ Incomplete → ⊥)
     → front_continuation first before field octets (front_of octets) ≡ front_continuation first before field (octets ++ more) (front_of (octets ++ more))
 told first before field octets more begun = grind (arith, common_steps, whole_is_a_packet, packet_same, take-append-le, whole_stays, incomplete_before, foreign_is_no_packet, take-append-drop)

@@ -5,6 +5,7 @@ ghost use Rattle.sl_link.specs.Io.Lines.{HasRoomFor, lines_size, number_width, f
 
 use crate::io::digits::Decimals;
 use crate::io::hexadecimal::Hexadecimals;
+use arrayvec::ArrayVec;
 use std::marker::Model;
 
 /// The size of the buffer that lines wait in.
@@ -17,8 +18,11 @@ pub const FRAME_ROOM: usize = 1024;
 /// Lines of a listing that are not written yet, 65536 octets at most.
 #[derive(Drop)]
 pub struct Lines {
-    // The lines are the first `len` of these octets.
-    text: [u8; LINES_SIZE],
+    // All `LINES_SIZE` octets are always there, and the lines are the first `len` of them. So
+    // `clear` sets `len` alone; that of an `ArrayVec` overwrites what it has. A plain array would
+    // do too, but is first built in another place: 64 KiB more of the stack, which can't always
+    // grow where memory is short.
+    text: ArrayVec<u8, LINES_SIZE>,
     len: usize,
     decimals: Decimals,
     hexadecimals: Hexadecimals,
@@ -30,9 +34,9 @@ impl Model for Lines {
 
     ghost Value = { List ℕ };
 
-    ghost view = { λ l. take l.len l.text };
+    ghost view = { λ l. take l.len l.text.items };
 
-    ghost invariant = { λ l. l.len ≤ lines_size };
+    ghost invariant = { λ l. (l.len ≤ lines_size) × (length l.text.items ≡ lines_size) };
 }
 
 impl Lines {
@@ -41,7 +45,7 @@ impl Lines {
         ensures { result ≡ [] }
     {
         Lines {
-            text: [0; LINES_SIZE],
+            text: ArrayVec::from([0; LINES_SIZE]),
             len: 0,
             decimals: Decimals::new(),
             hexadecimals: Hexadecimals::new(),

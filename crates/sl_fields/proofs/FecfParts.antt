@@ -98,7 +98,7 @@ parity a (suc (suc b)) e f = absurd (omega arith)
 last_bit : (a b : ℕ) → (bit_xor a b % 2 == 1) ≡ plus_bit (a % 2 == 1) (b % 2 == 1)
 last_bit a b = ap (λ n. n == 1) (xor_mod a b 1) ∙ parity (a % 2) (b % 2) (omega arith) (omega arith)
 
-bit_at : (place a b : ℕ) → (bit_xor a b / 2 ^ place % 2 == 1) ≡ plus_bit (a / 2 ^ place % 2 == 1) (b / 2 ^ place % 2 == 1)
+pub bit_at : (place a b : ℕ) → (bit_xor a b / 2 ^ place % 2 == 1) ≡ plus_bit (a / 2 ^ place % 2 == 1) (b / 2 ^ place % 2 == 1)
 bit_at place a b = ap (λ n. n % 2 == 1) (xor_shr a b place) ∙ last_bit (a / 2 ^ place) (b / 2 ^ place)
 
 octet_bits-xor : (a b : ℕ) → octet_bits (bit_xor a b) ≡ plus_bits (octet_bits a) (octet_bits b)

@@ -31,7 +31,7 @@ doubled times f h = record {
       (xor_square (f (12 * times + (12 * times + n))) (f (5 * times + (12 * times + n))) (f (12 * times + n)) (f (5 * times + (5 * times + n))) (f (5 * times + n)) (f n));
 }
 
-powers : (power times : ℕ) (f : ℕ → ℕ) → Recurs times f → Recurs (times * 2 ^ power) f
+pub powers : (power times : ℕ) (f : ℕ → ℕ) → Recurs times f → Recurs (times * 2 ^ power) f
 powers zero times f h = subst (λ n. Recurs n f) (omega arith) h
 powers (suc power) times f h =
     let more : 2 * (times * 2 ^ power) ≡ times * 2 ^ suc power = mul_comm 2 (times * 2 ^ power) ∙ mul_assoc times (2 ^ power) 2 ∙ ap (λ k. times * k) (sym (pow-suc 2 power)) in
@@ -56,7 +56,7 @@ one_recurs n =
     ∙ ap (λ k. bit_xor k (bit_xor (left_over n x5) (left_over n x0))) (sym (left_over-more 12 n (true ∷ [])))
     ∙ ap (λ k. bit_xor (left_over (12 + n) (true ∷ [])) (bit_xor k (left_over n x0))) (sym (left_over-more 5 n (true ∷ [])))
 
-bits_recur : (bits : List Bool) (n : ℕ) → left_over (16 + n) bits ≡ bit_xor (left_over (12 + n) bits) (bit_xor (left_over (5 + n) bits) (left_over n bits))
+pub bits_recur : (bits : List Bool) (n : ℕ) → left_over (16 + n) bits ≡ bit_xor (left_over (12 + n) bits) (bit_xor (left_over (5 + n) bits) (left_over n bits))
 bits_recur [] n = rw (left_over-nil (16 + n), left_over-nil (12 + n), left_over-nil (5 + n), left_over-nil n) refl
 bits_recur (false ∷ bits) n = bits_recur bits n
 bits_recur (true ∷ bits) n =

@@ -18,6 +18,10 @@ pub mod FecfSlices
 pub mod FecfFolds
 -- four slices to two, and two to one
 pub mod FecfHalves
+-- octets as the bits of a number
+pub mod FecfNumbers
+-- the last slice, halved as numbers until two octets are left
+pub mod FecfLastTwo
 -- octets that end with their error control field
 pub mod FecfLemmas
 -- known error control fields

@@ -16,6 +16,7 @@ ghost use Rattle.sl_fields.specs.Field.{number_of};
 
 use crate::ends::back;
 use crate::folds::folded;
+use crate::halves::last_two;
 use crate::words::WORDS;
 use byteorder::{BigEndian, ByteOrder};
 
@@ -41,7 +42,7 @@ pub fn fecf(octets: &[u8]) -> u16
     // `folded` puts 84 CF before the message, and folds then. So its slice is divided from zeros.
     // (Only for the proof: `TakesIn` asks for a message that leaves zeros, which is FF FF.)
     let zeros = Register { high: 0, low: 0 };
-    number(after_octets(zeros, &folded(octets).to_array()))
+    number(after_octets(zeros, &last_two(folded(octets))))
 }
 
 /// Whether the octets end with their frame error control field (CCSDS 132.0-B and 232.0-B): the

@@ -20,6 +20,7 @@ mod decimal;
 mod ends;
 mod error_control;
 mod folds;
+mod halves;
 pub mod laws;
 mod packet_header;
 mod segment_header;

@@ -14,5 +14,6 @@ pub returns : goal.returns
 returns c =
     c.number-2.ensures
     ∙ c.after_octets-2.ensures (0xFF ∷ (0xFF ∷ [])) (sym (zeros_by_FF_FF [] ∙ part-nil 0))
-    ∙ zeros_by_FF_FF c.folded.result
+    ∙ zeros_by_FF_FF c.last_two.result
+    ∙ c.last_two.ensures
     ∙ c.folded.ensures

@@ -1,12 +1,14 @@
 -- A message whose slices are added to later ones. The last four sums are kept: each is a slice of the message with what
 -- the earlier sums add to it.
-use Rattle.std.proofs.Common.{◌≡◌, ℕ, zero, suc, ◌+◌, ◌-◌, ◌*◌, ◌/◌, ◌%◌, ◌<◌, ◌≤◌, List, [], ◌∷◌, ◌++◌, length, take, drop, get_or, replicate, refl, sym, ◌∙◌, ap, arith, bit_xor, append-nil, append_assoc}
-use Rattle.std.specs.List.{concat}
+use Rattle.std.proofs.Common.{◌≡◌, ℕ, zero, suc, ◌+◌, ◌-◌, ◌*◌, ◌/◌, ◌%◌, ◌<◌, ◌≤◌, List, [], ◌∷◌, ◌++◌, length, take, drop, map, get_or, replicate, ◌||◌, nat_le, nat_lt, rules, w8, refl, sym, ◌∙◌, ap, subst, arith, bit_xor, append-nil, append_assoc}
+use Rattle.std.specs.List.{concat, range_with_len}
 use Rattle.std.specs.Simd.{first_chunks}
-use Rattle.std.specs.Simd.Lanes.{zip2}
-use Rattle.std.proofs.lemmas.List.{length-take, length-drop, length-replicate, take-append-drop, take-take, take_all, take_more, drop-drop, drop-append-le, drop-replicate, get_or-take, get_or-drop}
+use Rattle.std.specs.Simd.Lanes.{zip2, pick_l, Each1}
+use Rattle.std.proofs.lemmas.List.{length-take, length-drop, take-append-drop, take_all, take_more, get_or-take, get_or-drop}
 use Rattle.std.proofs.lemmas.List.Folds.{concat-append}
-use Rattle.std.proofs.Math.Seq.{take-add, take-append-add}
+use Rattle.std.proofs.lemmas.List.FromFn.{get_or-map-range_with_len}
+use Rattle.std.proofs.lemmas.Simd.{swz_l, pick_l_whole, SwzOk, SwzOk-from_Each1, Each1-chunk}
+use Rattle.std.proofs.Math.Dec.{T}
 use Rattle.sl_fields.specs.Fecf.{fecf_of}
 use Rattle.sl_fields.specs.FecfFolds.{part_of, first_two_of}
 use Rattle.sl_fields.proofs.FecfParts.{part-append, part-none, part-zeros, preset_by_84_CF}
@@ -107,19 +109,55 @@ holds-four message a b c d h =
     rw (h.part 0, part-four 0 a (zip2 bit_xor b a) third fourth long_ba long_third long_fourth, second_is, third_is, fourth_is, cut)
     (xor_four (part_of 48 a) (part_of 32 a) (part_of 16 (take 4 a)) (part_of 4 (drop 4 a)) (part_of 32 b) (part_of 16 b) (part_of 0 (take 4 b)) (part_of 16 c) (part_of 0 c) (part_of 0 d))
 
-pub first_two : (n : ℕ) (sixteen : List ℕ) → n < 16
-    → (let all = replicate 30 0 ++ 0x84 ∷ (0xCF ∷ sixteen) in
-    take 16 (take (48 - n) (drop n all)) ++ take 16 (take (48 - (n + 16)) (drop (n + 16) all)) ≡ replicate (30 - n) 0 ++ 0x84 ∷ (0xCF ∷ take n sixteen))
-first_two n sixteen h =
-    let back = 0x84 ∷ (0xCF ∷ sixteen) in
-    let all = replicate 30 0 ++ back in
-    let zeros : List ℕ = replicate (30 - n) 0 in
-    let long : length zeros + suc (suc n) ≡ 32 = omega (arith, length-replicate {A = ℕ} (30 - n) 0) in
-    rw (take-take 16 (48 - n) (drop n all) (omega arith), take-take 16 (48 - (n + 16)) (drop (n + 16) all) (omega arith), ← drop-drop 16 n all)
-    (sym (take-add 16 16 (drop n all))
-    ∙ ap (take 32) (drop-append-le n (replicate 30 0) back (omega arith) ∙ ap (λ l. l ++ back) (drop-replicate n 30 0))
-    ∙ ap (λ k. take k (zeros ++ back)) (sym long)
-    ∙ take-append-add zeros back (suc (suc n)))
+-- ---- the octets before the slices
+
+-- the constants `PRESET` and `PLACES`
+abbrev preset_octets : List ℕ
+preset_octets = replicate 30 0 ++ 0x84 ∷ (0xCF ∷ replicate 16 0)
+
+abbrev place_octets : List ℕ
+place_octets = replicate 16 128 ++ range_with_len 0 16
+
+-- sixteen octets of a constant of `long` octets, from the place `n` on
+abbrev pub piece : ℕ → ℕ → List ℕ → List ℕ
+piece n long constant = take 16 (take (long - n) (drop n constant))
+
+-- The two slices by the look-up, where the message begins with these sixteen octets, and `n` of them stand before its
+-- slices.
+abbrev looked_up : List ℕ → List ℕ → ℕ → List ℕ → List ℕ
+looked_up preset places n sixteen = piece n 48 preset ++ zip2 bit_xor (piece (n + 16) 48 preset) (swz_l w8 16 sixteen 0 (piece n 32 places))
+
+abbrev padded : ℕ → List ℕ → List ℕ
+padded n sixteen = replicate (30 - n) 0 ++ 0x84 ∷ (0xCF ∷ take n sixteen)
+
+-- the first sixteen octets, one by one
+abbrev one_by_one : List ℕ → List ℕ
+one_by_one octets = pick_l 0 octets (range_with_len 0 16)
+
+all_looked_up : (octets : List ℕ) → map (λ n. looked_up preset_octets place_octets n (one_by_one octets)) (range_with_len 0 16) ≡ map (λ n. padded n (one_by_one octets)) (range_with_len 0 16)
+all_looked_up octets = refl
+
+pub first_two : (preset places : List ℕ) → preset ≡ preset_octets → places ≡ place_octets → (n : ℕ) (sixteen : List ℕ) → n < 16 → length sixteen ≡ 16 → looked_up preset places n sixteen ≡ padded n sixteen
+first_two preset places is_preset are_places n sixteen h long =
+    let whole : one_by_one sixteen ≡ sixteen = pick_l_whole 0 sixteen 16 long in
+    let at : (f : ℕ → List ℕ) → get_or (map f (range_with_len 0 16)) n [] ≡ f n = λ f. get_or-map-range_with_len f 0 16 n n [] h (omega arith) in
+    ap (λ l. looked_up l places n sixteen) is_preset ∙ ap (λ l. looked_up preset_octets l n sixteen) are_places
+    ∙ ap (looked_up preset_octets place_octets n) (sym whole) ∙ sym (at (λ k. looked_up preset_octets place_octets k (one_by_one sixteen)))
+    ∙ ap (λ all. get_or all n []) (all_looked_up sixteen)
+    ∙ at (λ k. padded k (one_by_one sixteen)) ∙ ap (padded n) whole
+
+-- each place is one of the sixteen, or stands for a zero
+abbrev IsPlace : ℕ → Type 0
+IsPlace j = T (nat_le 128 j || nat_lt j 16)
+
+are_all_places : Each1 IsPlace place_octets
+are_all_places = search rules
+
+pub places_ok : (places : List ℕ) → places ≡ place_octets → (n : ℕ) → SwzOk w8 16 16 0 (piece n 32 places)
+places_ok places are_places n =
+    let short : 0 + length (piece n 32 places) ≤ 16 = omega (arith, length-take 16 (take (32 - n) (drop n places))) in
+    SwzOk-from_Each1 w8 16 1 16 0 (piece n 32 places) refl short
+    (Each1-chunk IsPlace 0 16 (take (32 - n) (drop n places)) (Each1-chunk IsPlace n (32 - n) places (subst (Each1 IsPlace) (sym are_places) are_all_places)))
 
 -- ---- the slices of a message, one after another
 

@@ -13,6 +13,19 @@ ghost use Rattle.sl_fields.specs.FecfFolds.{part_of, first_two_of};
 
 use std::simd::prelude::*;
 
+// Sixteen octets from `count` on are the places from which `first_two` takes the octets of a slice:
+// the first `count` octets of a message, behind zeros. The place 128 stands for a zero.
+static PLACES: [u8; 32] = [
+    128, 128, 128, 128, 128, 128, 128, 128, 128, 128, 128, 128, 128, 128, 128, 128, 0, 1, 2, 3, 4,
+    5, 6, 7, 8, 9, 10, 11, 12, 13, 14, 15,
+];
+
+// Two slices from `count` on have 84 CF before their last `count` octets.
+static PRESET: [u8; 48] = [
+    0, 0, 0, 0, 0, 0, 0, 0, 0, 0, 0, 0, 0, 0, 0, 0, 0, 0, 0, 0, 0, 0, 0, 0, 0, 0, 0, 0, 0, 0, 0x84,
+    0xCF, 0, 0, 0, 0, 0, 0, 0, 0, 0, 0, 0, 0, 0, 0, 0, 0,
+];
+
 /// One slice whose remainder is the frame error control field of these octets.
 #[inline(always)]
 pub(crate) fn folded(octets: &[u8]) -> u8x16
@@ -67,21 +80,20 @@ fn four_of_all(octets: &[u8]) -> (u8x16, u8x16, u8x16, u8x16)
 // The whole slices end with the message. The `count` octets before them, at most 15, are put at the
 // end of two slices of their own, behind zeros and 84 CF. Zeros leave a register of zeros as it is,
 // and 84 CF turn it into the preset.
-// With 84 CF they are at most 17 octets: too many for one slice. `padded` has sixteen octets of the
-// message behind 84 CF, and the two slices end after the first `count`.
+// With 84 CF they are at most 17 octets: too many for one slice. From `count` on, `PRESET` has what
+// stands in the two slices before the message, with zeros in the message's place, and `PLACES` has
+// the places of the message's octets.
 #[inline(always)]
 fn first_two(octets: &[u8]) -> (u8x16, u8x16)
     requires { 16 ≤ length octets.now }
     ensures { result.0 ++ result.1 ≡ first_two_of octets.now }
 {
-    let mut padded = [0; 48];
-    padded[30] = 0x84;
-    padded[31] = 0xCF;
-    padded[32..].copy_from_slice(&octets[..16]);
     let count = octets.len() % 16;
+    let places = u8x16::from_slice(&PLACES[count..]);
+    let before_slices = u8x16::from_slice(octets).swizzle_dyn_within::<16>(places);
     (
-        u8x16::from_slice(&padded[count..]),
-        u8x16::from_slice(&padded[count + 16..]),
+        u8x16::from_slice(&PRESET[count..]),
+        u8x16::from_slice(&PRESET[count + 16..]) ^ before_slices,
     )
 }
 

@@ -27,7 +27,7 @@ bit_of_injective false true e = absurd (omega arith)
 bit_of_injective true false e = absurd (omega arith)
 bit_of_injective true true e = refl
 
-bits_number_injective : (vs ws : List Bool) → length vs ≡ length ws → bits_number vs ≡ bits_number ws → vs ≡ ws
+pub bits_number_injective : (vs ws : List Bool) → length vs ≡ length ws → bits_number vs ≡ bits_number ws → vs ≡ ws
 bits_number_injective [] [] e n = refl
 bits_number_injective [] (w ∷ ws) e n = absurd (omega arith)
 bits_number_injective (v ∷ vs) [] e n = absurd (omega arith)
@@ -44,7 +44,7 @@ bits_number_injective (v ∷ vs) (w ∷ ws) e n =
 all_octets : map (λ n. bits_number (octet_bits n)) (range_with_len 0 256) ≡ range_with_len 0 256
 all_octets = refl
 
-bits_number-octet : (octet : ℕ) → octet < 256 → bits_number (octet_bits octet) ≡ octet
+pub bits_number-octet : (octet : ℕ) → octet < 256 → bits_number (octet_bits octet) ≡ octet
 bits_number-octet octet h =
     sym (get_or-map-range_with_len (λ n. bits_number (octet_bits n)) 0 256 octet octet 0 h (omega arith))
     ∙ ap (λ all. get_or all octet 0) all_octets ∙ get_or-range_with_len 0 256 octet 0 h ∙ omega arith

@@ -24,6 +24,8 @@ pub mod FecfNumbers
 pub mod FecfLastTwo
 -- octets that end with their error control field
 pub mod FecfLemmas
+-- their own field, which is 0
+pub mod FecfSyndrome
 -- known error control fields
 pub mod FecfFacts
 -- ---- headers, and what several of these files share

@@ -51,11 +51,11 @@ pub fn fecf(octets: &[u8]) -> u16
 pub fn fecf_good(octets: &[u8]) -> bool
     ensures { result ≡ fecf_is_good octets.now }
 {
-    if octets.len() < 3 {
-        return false;
+    if octets.len() < LEAST_FOLDED {
+        return octets.len() >= 3 && fecf(octets) == 0;
     }
-    let (covered, field) = octets.split_at(octets.len() - 2);
-    BigEndian::read_u16(field) == fecf(covered)
+    // Two octets leave the remainder 0 only if they are zeros, so the table isn't needed.
+    u16::from_be_bytes(last_two(folded(octets))) == 0
 }
 
 /// The frame error control field that follows these octets in a frame, as two octets, the most

@@ -1,12 +1,17 @@
 //! The frame error control field: computed, checked, and cut off the end of a frame.
 //!
-//! The field is the remainder of a division, whose register holds sixteen bits. The upper octet of
-//! the register plus an octet of the message selects a word in a table: the remainder of the sum's
-//! eight bits and sixteen zeros. This word, plus the lower octet moved up by an octet, is the new
-//! register. All sums are without carries.
+//! The field is the remainder of a division, whose register holds sixteen bits, here as two octets.
+//! The upper octet plus an octet of the message selects one of 256 words in a table: the remainder
+//! of the sum's eight bits and sixteen zeros. This word, plus the lower octet moved up by an octet,
+//! is the new register. All sums are without carries.
 //!
-//! The octets of a short message are taken one by one. Those of a longer one are first added to
-//! later octets of the message, until sixteen with the same remainder are left.
+//! The octets of a short message are taken so, one by one. A longer one is first made short, with
+//! the same remainder. The module `folds` adds slices of sixteen octets to later ones, the farthest
+//! first, until one is left. The module `halves` halves it three times, which leaves two octets for
+//! the table.
+//!
+//! A frame that ends with its field leaves the remainder 0, and no other frame does. So a frame is
+//! checked as a whole. Two octets leave 0 only if they are zeros, which needs no table.
 ghost use Rattle.std.specs.Prelude.{◌≡◌, ◌-◌, ◌<◌, ◌≤◌, [], ◌∷◌, length, take, drop};
 ghost use Rattle.sl_fields.specs.Fecf.{fecf_of, fecf_is_good};
 ghost use Rattle.sl_fields.specs.FecfField.{fecf_octets, fecf_len};
@@ -20,8 +25,7 @@ use crate::halves::last_two;
 use crate::words::WORDS;
 use byteorder::{BigEndian, ByteOrder};
 
-// From this many octets on, folding first was faster than octet by octet when it was tried.
-// `folded` needs 16 or more. That the folds have 22 places too is chance.
+// Shorter messages go through the table octet by octet. `folded` needs 16 octets or more.
 const LEAST_FOLDED: usize = 22;
 
 /// The frame error control field (CCSDS 132.0-B and 232.0-B) that follows these octets in a frame.
@@ -54,7 +58,6 @@ pub fn fecf_good(octets: &[u8]) -> bool
     if octets.len() < LEAST_FOLDED {
         return octets.len() >= 3 && fecf(octets) == 0;
     }
-    // Two octets leave the remainder 0 only if they are zeros, so the table isn't needed.
     u16::from_be_bytes(last_two(folded(octets))) == 0
 }
 

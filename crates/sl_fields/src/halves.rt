@@ -1,17 +1,17 @@
-//! The last slice of a message, halved until two octets are left. A half is a number here, its first
-//! octet the most significant.
+//! The last slice of a message, halved until two octets are left. A half is a number here, its
+//! first octet the most significant.
 //!
 //! The generator is x^16 + x^12 + x^5 + 1, and all sums are without carries, so a square is the sum
-//! of the squares. Squared twice, the generator is x^64 + x^48 + x^20 + 1, which it divides. So two
-//! numbers of 64 bits, one after the other, leave the same remainder as what they leave by this
-//! multiple, which is one number of 64 bits. The generator squared once halves 64 bits, and the
-//! generator itself 32.
+//! of the squares. Squared twice, the generator is x^64 + x^48 + x^20 + 1, a multiple of itself. So
+//! two numbers of 64 bits, one after the other, are divided by this multiple: what is left is one
+//! number of 64 bits, with the remainder of both. The generator squared once does so with numbers
+//! of 32 bits, and the generator itself with numbers of 16.
 //!
-//! Two numbers leave `second` and the quotient's multiples by the lower terms, as far as they aren't
-//! above `second`. Above it they and the quotient itself cancel `first`, whose sixteenths are the
-//! unit here. So the quotient is `first` plus the quotient, 4 and 11 units later. With the quotient
-//! put in for itself, it is `first` plus `first`, 4, 8, 12 and 11 units later: 15 units later comes
-//! twice, and cancels.
+//! A unit is a sixteenth of a number: 4 bits, 2 or 1. In the divisor the lower terms stand 4, 11
+//! and 16 units after the first one. So `first` is the quotient plus the quotient 4 and 11 units
+//! later. Solved for the quotient, this is `first` plus `first` 4, 8, 12 and 11 units later; what
+//! comes 15 units later comes twice, and cancels. What is left is `second` plus the quotient moved
+//! up by 12 units, by 5 and by none.
 ghost use Rattle.std.specs.Prelude.{◌≡◌, ◌++◌};
 ghost use Rattle.byteorder.specs.Endian.{big_bytes};
 ghost use Rattle.sl_fields.specs.FecfFolds.{part_of};

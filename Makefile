@@ -13,6 +13,8 @@
 #     make lib
 #     make bench
 #     make quick
+#     make contracts
+#     make contracts CONTRACTS=FOLDER
 #     make check
 #
 # PREFIX is where they are to be used, /usr/local where nothing is said. DESTDIR is put before each path, for whoever
@@ -55,7 +57,7 @@ CALLS = crates/sl_c/out/libsl_c.a
 HEAP = $(dir $(shell rt doc 2> /dev/null))c/liblibc_c.a
 OBJCOPY = objcopy
 
-.PHONY: all install uninstall built pages dist deb wheel lib bench quick check
+.PHONY: all install uninstall built pages dist deb wheel lib bench quick contracts check
 .SILENT: install uninstall dist deb wheel
 
 all: pages
@@ -204,6 +206,12 @@ bench:
 # Runs all tests without proving anything.
 quick:
 	for crate in sl_tests sl_link_tests sllink; do (cd crates/$$crate && rt try --test) || exit 1; done
+
+# Quotes what the library crates promise in CONTRACTS, a page for each. Where a change of the sources leaves these pages
+# as they are, no contract is gone, and none is weaker. It wants neither the program nor the kit.
+CONTRACTS = docs/contracts
+contracts:
+	@python3 -B tests/lib/contracts.py "$(CONTRACTS)"
 
 # The gate, then the program, and all that is tried on it. The last line counts both.
 RT = rt

@@ -1,0 +1,10 @@
+pub mod Marker
+pub mod MarkerModel
+pub mod Randomiser
+pub mod Units
+pub mod Held
+pub mod Cadu
+pub mod CodeBlock
+pub mod Cltu
+pub mod Totals
+pub mod Window

@@ -53,7 +53,7 @@ frame_of-more s octets more h =
     ap (λ (x : List ℕ). randomised_if s.randomised Tm (take s.len x)) (drop-append-le (before s) octets more (omega arith))
     ∙ ap (λ (x : List ℕ). randomised_if s.randomised Tm x) (take-append-le s.len (drop (before s) octets) more long)
 
-content_by : Bool → List ℕ → Content
+unfoldable pub content_by : Bool → List ℕ → Content
 content_by marked frame = record { frames = frame ∷ []; marked = marked; cut = 0; refused = false }
 
 content-seen : (s : CaduShape) (octets more : List ℕ) → seen s ≤ length octets

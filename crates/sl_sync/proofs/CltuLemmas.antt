@@ -78,7 +78,7 @@ refused-seen s octets more h =
     ∙ refused-more s (drop n octets) more (omega (arith, length-drop n octets))
 
 -- what a CLTU holds, of the data of its code blocks and of what follows them
-pub content_by : List ℕ → Bool → Content
+unfoldable pub content_by : List ℕ → Bool → Content
 content_by octets refused = record {
   frames = frames_in octets;
   marked = true;

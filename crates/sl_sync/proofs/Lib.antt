@@ -20,3 +20,7 @@ pub mod CltuLemmas
 pub mod CltuFacts
 -- known units of one length
 pub mod CaduFacts
+-- laws on units of one length
+pub mod CaduLawLemmas
+-- the law on CLTUs
+pub mod CltuLawLemmas

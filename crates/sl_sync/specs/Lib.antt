@@ -8,3 +8,4 @@ pub mod CodeBlock
 pub mod Cltu
 pub mod Totals
 pub mod Window
+pub mod Laws

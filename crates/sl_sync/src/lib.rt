@@ -12,6 +12,7 @@ mod cltu;
 mod cltu_units;
 mod code_block;
 mod ends;
+pub mod laws;
 mod marker;
 mod randomiser;
 mod tc_frames;

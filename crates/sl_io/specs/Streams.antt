@@ -2,11 +2,10 @@
 -- writer doesn't report its octets, these definitions speak of its faults alone.
 use Rattle.std.specs.Prelude.{◌≡◌, ℕ, ◌+◌, ◌≤◌, ◌<◌, List, [], ◌++◌, length, take, Option}
 use Rattle.std.specs.Io.KnownBytes.{Consumes, IsAtEnd, Appends}
-use Rattle.sl_link.specs.declared.link.counted.Counted.{Counted}
-use Rattle.sl_link.specs.declared.link.fault.LinkFault.{LinkFault}
-use Rattle.sl_link.specs.declared.link.fault.LinkFault.TheVariants.{Read, TooLong, Memory, Write}
-use Rattle.sl_link.specs.Link.Counted.{stream_of, faults_of, no_stream, HadOneFault}
-use Rattle.sl_link.specs.Link.Totals.{Counts}
+use Rattle.sl_io.specs.declared.counted.Counted.{Counted}
+use Rattle.sl_io.specs.declared.fault.LinkFault.{LinkFault}
+use Rattle.sl_io.specs.declared.fault.LinkFault.TheVariants.{Read, TooLong, Memory, Write}
+use Rattle.sl_io.specs.Counted.{stream_of, faults_of, no_stream, HadOneFault}
 
 module _ {R : Type 0} (remaining : R → Option (List ℕ)) where
   -- these octets were read
@@ -109,8 +108,8 @@ module _ {R W : Type 0} (remaining : R → Option (List ℕ)) (contents : W → 
 
   -- The same, and the totals are the counts of the same octets. Streams that don't report these leave the totals open.
   -- An engine states `Translates` in a clause of its own too, so that what rests on that clause rests on no counts.
-  pub record TranslatesWithTotals (reader reader' : Counted R) (writer writer' : Counted W) (text : List ℕ → List ℕ)
-      (counts : List ℕ → Counts) (limit : ℕ) (totals : Counts) : Type 0 where
+  pub record TranslatesWithTotals {C : Type 0} (reader reader' : Counted R) (writer writer' : Counted W) (text : List ℕ → List ℕ)
+      (counts : List ℕ → C) (limit : ℕ) (totals : C) : Type 0 where
     pub translated : Translates reader reader' writer writer' text limit
     pub totals_are : totals ≡ counts translated.octets
 

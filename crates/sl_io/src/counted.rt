@@ -13,7 +13,7 @@ pub struct Counted<T> {
 
 impl<T> Counted<T> {
     ghost use Rattle.std.specs.Prelude.{◌≡◌};
-    ghost use Rattle.sl_link.specs.Link.Counted.{stream_of, faults_of};
+    ghost use Rattle.sl_io.specs.Counted.{stream_of, faults_of};
 
     /// The stream, with a count of 0.
     pub fn new(stream: T) -> Counted<T>
@@ -43,7 +43,7 @@ impl<R: Read> Read for Counted<R> {
     ghost use Rattle.std.specs.Prelude.{◌≡◌, is_err, if◌then◌else◌};
     ghost use Rattle.std.specs.Io.{ReadsAtMost};
     ghost use Rattle.std.specs.Io.KnownBytes.{ReadConsumes};
-    ghost use Rattle.sl_link.specs.Link.Counted.{stream_of, faults_of};
+    ghost use Rattle.sl_io.specs.Counted.{stream_of, faults_of};
     ghost use Rattle.sl_packet.specs.Sink.{one_more};
 
     ghost remaining = { λ c. R.remaining (stream_of c) };
@@ -69,7 +69,7 @@ impl<W: Write> Write for Counted<W> {
     ghost use Rattle.std.specs.Prelude.{◌≡◌, is_err, if◌then◌else◌};
     ghost use Rattle.std.specs.Io.{WritesAtMost};
     ghost use Rattle.std.specs.Io.KnownBytes.{WriteAppends, Keeps};
-    ghost use Rattle.sl_link.specs.Link.Counted.{stream_of, faults_of, is_write_fault};
+    ghost use Rattle.sl_io.specs.Counted.{stream_of, faults_of, is_write_fault};
     ghost use Rattle.sl_packet.specs.Sink.{one_more};
 
     ghost contents = { λ c. W.contents (stream_of c) };

@@ -1,10 +1,10 @@
 //! Single reads, and single writes until a text is written. None is tried again after an error, an
 //! interrupted call included.
 ghost use Rattle.std.specs.Prelude.{◌≡◌, ◌≢◌, ◌-◌, [], IfOk, IfErr, OnOk, length};
-ghost use Rattle.sl_link.specs.Io.Streams.{Reads, ReadsSome, StopsReading, WritesText, StopsWriting};
+ghost use Rattle.sl_io.specs.Streams.{Reads, ReadsSome, StopsReading, WritesText, StopsWriting};
 
-use crate::link::counted::Counted;
-use crate::link::fault::LinkFault;
+use crate::counted::Counted;
+use crate::fault::LinkFault;
 use std::io::{Read, Write};
 
 /// Reads once, and reports how many octets came to the front of the buffer. These are 0 only at the

@@ -1,6 +1,6 @@
 //! Why an engine stopped.
 ghost use Rattle.std.specs.Prelude.{◌≡◌};
-ghost use Rattle.sl_link.specs.Link.Fault.{sink_fault};
+ghost use Rattle.sl_io.specs.Fault.{sink_fault};
 
 use sl_packet::{FlowFault, SinkFault};
 use thiserror::Error;
@@ -31,7 +31,7 @@ pub enum LinkFault {
 
 impl From<FlowFault> for LinkFault {
     ghost use Rattle.std.specs.Prelude.{◌≡◌};
-    ghost use Rattle.sl_link.specs.Link.Fault.{flow_fault};
+    ghost use Rattle.sl_io.specs.Fault.{flow_fault};
 
     ghost from_gives = { λ fault e. e ≡ flow_fault fault };
 

@@ -1,7 +1,7 @@
 -- A stream with the number of its faults.
 use Rattle.std.specs.Prelude.{◌≡◌, ⊤, ℕ, ◌==◌, ◌&&◌, Bool, true, not, List, length, Result, Ok, Err}
 use Rattle.sl_packet.specs.Sink.{one_more}
-use Rattle.sl_link.specs.declared.link.counted.Counted.{Counted}
+use Rattle.sl_io.specs.declared.counted.Counted.{Counted}
 
 -- the stream itself
 abbrev pub stream_of : {T : Type 0} → Counted T → T

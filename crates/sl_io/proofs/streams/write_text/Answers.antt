@@ -1,8 +1,8 @@
 use Rattle.std.proofs.Common.{◌∙◌, ◌++◌, take}
 use Rattle.std.proofs.lemmas.Bool.{ne_eqb}
 use Rattle.std.proofs.KnownBytes.{Appends-trans}
-use Rattle.sl_link.proofs.lemmas.Io.Streams.{moves_on}
-use Rattle.sl_link.proofs.io.streams.write_text.Goals as goal
+use Rattle.sl_io.proofs.StreamLemmas.{moves_on}
+use Rattle.sl_io.proofs.streams.write_text.Goals as goal
 
 pub loop-left-preserved : goal.loop-left-preserved
 loop-left-preserved g c =

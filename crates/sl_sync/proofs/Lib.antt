@@ -24,3 +24,5 @@ pub mod CaduFacts
 pub mod CaduLawLemmas
 -- the law on CLTUs
 pub mod CltuLawLemmas
+-- a file that is read chunk by chunk
+pub mod ReadingLemmas

@@ -9,3 +9,4 @@ pub mod Cltu
 pub mod Totals
 pub mod Window
 pub mod Laws
+pub mod Reading

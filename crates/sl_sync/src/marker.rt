@@ -57,7 +57,7 @@ impl SyncMarker {
     }
 
     /// The number of its octets, 16 at most.
-    pub fn len(&self) -> usize
+    pub(crate) fn len(&self) -> usize
         ensures value { result ≡ length self.now.octets }
         ensures most { result ≤ 16 }
     {
@@ -67,7 +67,7 @@ impl SyncMarker {
     /// Whether the marker is at the front of octets, with no more wrong bits than it may have.
     /// Where they are fewer than its own, as much of it is looked for as can be there.
     #[inline(always)]
-    pub fn is_at(&self, octets: &[u8]) -> bool
+    pub(crate) fn is_at(&self, octets: &[u8]) -> bool
         ensures { result ≡ is_marked self.now octets.now }
     {
         wrong_bits(self.octets.as_slice(), octets) <= self.errors

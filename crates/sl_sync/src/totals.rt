@@ -24,7 +24,7 @@ pub struct Totals {
 
 impl Totals {
     /// No counts yet.
-    pub fn none() -> Totals
+    pub(crate) fn none() -> Totals
         ensures { result ≡ totals_of [] }
     {
         Totals {

@@ -9,7 +9,7 @@ use Rattle.std.proofs.lemmas.Result.{IfOk-at_ok}
 use Rattle.sl_link.specs.Link.Managed.{Parameters, managed_of}
 use Rattle.sl_link.specs.Link.Totals.{Counts}
 use Rattle.sl_link.specs.Same.{StopsInMemory}
-use Rattle.sl_link.specs.declared.link.fault.LinkFault.{LinkFault}
+use Rattle.sl_io.specs.declared.fault.LinkFault.{LinkFault}
 use Rattle.sl_link.specs.declared.link.managed.ManagedFault.{ManagedFault}
 use Rattle.sl_c.specs.Answer.{Says}
 use Rattle.sl_c.specs.declared.answer.Answer.{Answer}

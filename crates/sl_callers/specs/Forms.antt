@@ -1,7 +1,7 @@
 -- What callers of the engines promise of the limit, where their recordings are slices and they write into a vector.
 use Rattle.std.specs.Prelude.{◌≡◌, ◌⊎◌, ◌<◌, ◌≤◌, ℕ, IfErr, OnOk, Result}
-use Rattle.sl_link.specs.declared.link.fault.LinkFault.{LinkFault}
-use Rattle.sl_link.specs.declared.link.fault.LinkFault.TheVariants.{Memory, TooLong}
+use Rattle.sl_io.specs.declared.fault.LinkFault.{LinkFault}
+use Rattle.sl_io.specs.declared.fault.LinkFault.TheVariants.{Memory, TooLong}
 
 -- At Ok the octets are no more than the limit. The fault is `Memory`, or `TooLong` where they are more.
 abbrev pub KeepsLimit : {T : Type 0} → ℕ → ℕ → Result T LinkFault → Type 0

@@ -5,9 +5,9 @@ use Rattle.sl_link.specs.declared.engine.RecordingKind.{RecordingKind}
 use Rattle.sl_link.specs.declared.engine.RecordingKind.TheVariants.{Tm, Tc}
 use Rattle.sl_link.specs.declared.engine.VerbName.{VerbName}
 use Rattle.sl_link.specs.declared.engine.VerbName.TheVariants.{Show, Check, Packets, Normalise}
-use Rattle.sl_link.specs.declared.link.counted.Counted.{Counted}
-use Rattle.sl_link.specs.declared.link.fault.LinkFault.{LinkFault}
-use Rattle.sl_link.specs.declared.link.fault.LinkFault.TheVariants.{Memory, Write}
+use Rattle.sl_io.specs.declared.counted.Counted.{Counted}
+use Rattle.sl_io.specs.declared.fault.LinkFault.{LinkFault}
+use Rattle.sl_io.specs.declared.fault.LinkFault.TheVariants.{Memory, Write}
 use Rattle.sl_link.specs.Io.Streams.{IsRead, TranslatesWithTotals, Stops}
 use Rattle.sl_link.specs.Kind.Tc.{IsIncompleteAtLastTc, MayRefuseStoreMemoryTc, tc_counts}
 use Rattle.sl_link.specs.Kind.Tm.{IsIncompleteAtLastTm, MayRefuseStoreMemoryTm, tm_counts}

@@ -2,5 +2,5 @@
 pub mod Digits
 pub mod Lines
 pub mod Output
-pub mod Streams
+pub use Rattle.sl_io.specs.Streams
 pub mod Words

@@ -1,6 +1,6 @@
 -- The values of a link.
-pub mod Counted
-pub mod Fault
+pub use Rattle.sl_io.specs.Counted
+pub use Rattle.sl_io.specs.Fault
 pub mod Managed
 pub mod ManagedModel
 pub mod Totals

@@ -1,8 +1,8 @@
 -- Whether two recordings deliver the same packets. `packets` gives those of a recording.
 use Rattle.std.specs.Prelude.{◌≡◌, ◌⊎◌, ◌↔◌, ◌<◌, ◌≤◌, ℕ, List, Bool, IsTrue, Option}
-use Rattle.sl_link.specs.declared.link.counted.Counted.{Counted}
-use Rattle.sl_link.specs.declared.link.fault.LinkFault.{LinkFault}
-use Rattle.sl_link.specs.declared.link.fault.LinkFault.TheVariants.{Memory, TooLong}
+use Rattle.sl_io.specs.declared.counted.Counted.{Counted}
+use Rattle.sl_io.specs.declared.fault.LinkFault.{LinkFault}
+use Rattle.sl_io.specs.declared.fault.LinkFault.TheVariants.{Memory, TooLong}
 use Rattle.sl_tcframe.specs.TcDelimited.{tc_frames_of}
 use Rattle.sl_tmframe.specs.TmDelimited.{tm_frames_of}
 use Rattle.sl_link.specs.Io.Streams.{ReadsAll}

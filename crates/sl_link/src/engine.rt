@@ -3,12 +3,11 @@ ghost use Rattle.std.specs.Prelude.{◌≡◌, IfOk, IfErr};
 ghost use Rattle.sl_link.specs.Engine.{HasWritten, IsStoppedBy, MayRefuseEngineMemory, engine_frames};
 ghost use Rattle.sl_link.specs.Framing.{MayRefuseMemoryAtSome};
 
-use crate::link::counted::Counted;
-use crate::link::fault::LinkFault;
 use crate::link::managed::Managed;
 use crate::link::totals::Totals;
 use crate::listings::{check_tc, check_tm, packets_tc, packets_tm, show_tc, show_tm};
 use crate::normalise::{normalise_tc, normalise_tm};
+use sl_io::{Counted, LinkFault};
 use std::alloc::Global;
 use std::io::{Read, Write};
 

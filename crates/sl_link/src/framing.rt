@@ -7,12 +7,10 @@ mod framer;
 mod tc;
 mod tm;
 
-use crate::io::streams::read_some;
-use crate::link::counted::Counted;
-use crate::link::fault::LinkFault;
 use crate::link::managed::Managed;
 pub use frame_sink::FrameSink;
 pub use framer::Framer;
+use sl_io::{Counted, LinkFault, read_some};
 use std::io::Read;
 
 /// How many octets are read at once, at most.

@@ -3,5 +3,4 @@ pub mod digits;
 pub mod hexadecimal;
 pub mod lines;
 pub mod output;
-pub mod streams;
 pub mod words;

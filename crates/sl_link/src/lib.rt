@@ -33,8 +33,6 @@ mod tally;
 mod verbs;
 
 pub use engine::{Engine, RecordingKind, VerbName, run_engine};
-pub use link::counted::Counted;
-pub use link::fault::LinkFault;
 pub use link::managed::{Managed, ManagedFault};
 pub use link::totals::Totals;
 pub use listings::{check_tc, check_tm, packets_tc, packets_tm, show_tc, show_tm};
@@ -43,3 +41,4 @@ pub use program::run;
 pub use same::{
     same_packets_in_memory_tc, same_packets_in_memory_tm, same_packets_tc, same_packets_tm,
 };
+pub use sl_io::{Counted, LinkFault};

@@ -1,5 +1,3 @@
 //! A link's values: its managed parameters, its streams with their faults, and what is counted.
-pub mod counted;
-pub mod fault;
 pub mod managed;
 pub mod totals;

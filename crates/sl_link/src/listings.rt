@@ -16,8 +16,6 @@ ghost use Rattle.sl_link.specs.Io.Streams.{Stops, Translates, TranslatesWithTota
 ghost use Rattle.sl_link.specs.Framing.{MayRefuseMemoryAtSome, chunk_size};
 
 use crate::framing::CHUNK_SIZE;
-use crate::link::counted::Counted;
-use crate::link::fault::LinkFault;
 use crate::link::managed::Managed;
 use crate::link::totals::Totals;
 use crate::verbs::check::Check;
@@ -25,6 +23,7 @@ use crate::verbs::list;
 use crate::verbs::packets::ListPackets;
 use crate::verbs::show::Show;
 use crate::verbs::show::shown::TmFrames;
+use sl_io::{Counted, LinkFault};
 use sl_tcflow::{Farms, Receiver};
 use sl_tcframe::TcFramer;
 use sl_tmflow::Extractor;

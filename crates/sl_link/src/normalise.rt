@@ -17,11 +17,10 @@ mod form;
 
 use crate::framing::{CHUNK_SIZE, FrameSink, Framer, cut_chunk, read_recording};
 use crate::kind::Deliverer;
-use crate::link::counted::Counted;
-use crate::link::fault::LinkFault;
 use crate::link::managed::Managed;
 use crate::link::totals::Totals;
 use crate::normalise::form::write_form;
+use sl_io::{Counted, LinkFault};
 use sl_packet::Delivered;
 use sl_tcflow::{Receiver, TcForm};
 use sl_tcframe::TcFramer;

@@ -12,14 +12,12 @@ ghost use Rattle.sl_link.specs.Program.Run.{AsksForRefusedParameter, HasMetAnoma
 pub mod command_line;
 
 use crate::engine::{Engine, run_engine};
-use crate::io::streams::write_text;
-use crate::link::counted::Counted;
-use crate::link::fault::LinkFault;
 use crate::link::managed::Managed;
 use crate::link::totals::Totals;
 use clap::Error;
 use clap::error::ErrorKind;
 use command_line::{Asked, parse};
+use sl_io::{Counted, LinkFault, write_text};
 use std::alloc::{AllocError, Global};
 use std::io::{Read, Write};
 

@@ -12,10 +12,9 @@ ghost use Rattle.sl_link.specs.Same.{ComparesPackets, MayRefuseStoreMemoryInTc, 
 
 use crate::framing::Framer;
 use crate::kind::Deliverer;
-use crate::link::counted::Counted;
-use crate::link::fault::LinkFault;
 use crate::link::managed::Managed;
 use crate::normalise::{store_packets, store_packets_in_memory};
+use sl_io::{Counted, LinkFault};
 use sl_tcflow::Receiver;
 use sl_tcframe::TcFramer;
 use sl_tmflow::Extractor;

@@ -12,10 +12,9 @@ pub mod show;
 use crate::framing::{FrameSink, Framer, read_recording};
 use crate::io::lines::Lines;
 use crate::io::output::{Output, Written};
-use crate::link::counted::Counted;
-use crate::link::fault::LinkFault;
 use crate::link::managed::Managed;
 use crate::link::totals::Totals;
+use sl_io::{Counted, LinkFault};
 use std::io::{Read, Write};
 
 /// A verb that lists, `show`, `check` or `packets`, for one kind of frames. A clause with `before`

@@ -2,9 +2,9 @@
 -- kind its frames are.
 use Rattle.std.specs.Prelude.{◌≡◌, ℕ, ◌<◌, List, [], Option, take}
 use Rattle.std.specs.List.{slice_index_or}
-use Rattle.sl_link.specs.declared.link.counted.Counted.{Counted}
-use Rattle.sl_link.specs.declared.link.fault.LinkFault.{LinkFault}
-use Rattle.sl_link.specs.declared.link.fault.LinkFault.TheVariants.{Memory}
+use Rattle.sl_io.specs.declared.counted.Counted.{Counted}
+use Rattle.sl_io.specs.declared.fault.LinkFault.{LinkFault}
+use Rattle.sl_io.specs.declared.fault.LinkFault.TheVariants.{Memory}
 use Rattle.sl_link.specs.Io.Streams.{ReadsAll}
 use Rattle.sl_link.specs.Kind.Delivery.{AddsByChannel, AreStored, Kind, counts_in, packets_by_channel}
 use Rattle.sl_link.specs.Link.Totals.{Counts}

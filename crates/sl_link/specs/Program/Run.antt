@@ -2,8 +2,8 @@
 use Rattle.std.specs.Prelude.{ℕ, List, ◌≡◌, ◌≢◌, IsErr, Option, Ok}
 use Rattle.clap.specs.Walk.{Text}
 use Rattle.sl_link.specs.declared.engine.VerbName.TheVariants.{Check}
-use Rattle.sl_link.specs.declared.link.counted.Counted.{Counted}
-use Rattle.sl_link.specs.declared.link.fault.LinkFault.{LinkFault}
+use Rattle.sl_io.specs.declared.counted.Counted.{Counted}
+use Rattle.sl_io.specs.declared.fault.LinkFault.{LinkFault}
 use Rattle.sl_link.specs.declared.program.command_line.Asked.{Asked}
 use Rattle.sl_link.specs.Engine.{HasWritten, IsStoppedBy}
 use Rattle.sl_link.specs.Link.Managed.{Parameters}

@@ -3,13 +3,13 @@ ghost use Rattle.std.specs.Prelude.{OnOk, IfErr, ◌++◌, ◌∷◌, [], List, 
 ghost use Rattle.sl_link.specs.Link.Managed.{Parameters};
 ghost use Rattle.sl_link.specs.Framing.{After, MayTake};
 
-use crate::link::fault::LinkFault;
 use crate::link::managed::Managed;
+use sl_io::LinkFault;
 
 /// Takes the frames of a recording, one after another. A clause with `After` holds for every list
 /// of frames already taken, and every value the sink began with.
 pub trait FrameSink {
-    ghost use Rattle.sl_link.specs.declared.link.fault.LinkFault.{LinkFault};
+    ghost use Rattle.sl_io.specs.declared.fault.LinkFault.{LinkFault};
 
     /// The sink takes these octets as a frame.
     ghost is_frame: { Parameters → List ℕ → Type 0 };

@@ -5,9 +5,7 @@ ghost use Rattle.sl_link.specs.Io.Lines.{HasRoom};
 ghost use Rattle.sl_link.specs.Io.Streams.{StopsWriting};
 
 use crate::io::lines::Lines;
-use crate::io::streams::write_text;
-use crate::link::counted::Counted;
-use crate::link::fault::LinkFault;
+use sl_io::{Counted, LinkFault, write_text};
 use std::io::Write;
 
 /// What a step answers that writes.

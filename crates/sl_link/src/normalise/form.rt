@@ -8,9 +8,7 @@ mod tc;
 mod tm;
 
 use crate::framing::CHUNK_SIZE;
-use crate::io::streams::write_text;
-use crate::link::counted::Counted;
-use crate::link::fault::LinkFault;
+use sl_io::{Counted, LinkFault, write_text};
 use std::alloc::Global;
 use std::io::Write;
 
@@ -25,7 +23,7 @@ pub trait Form {
     // One definition for both kinds; that of `sl_tcflow`, `AddsPieceTc`, implies it.
     ghost use Rattle.sl_tmflow.specs.Form.{AddsPiece};
     ghost use Rattle.sl_link.specs.Normalise.Form.{piece_size};
-    ghost use Rattle.sl_link.specs.declared.link.fault.LinkFault.{LinkFault};
+    ghost use Rattle.sl_io.specs.declared.fault.LinkFault.{LinkFault};
 
     /// The octets that are still to come.
     ghost left: { Self → List ℕ };

@@ -15,13 +15,13 @@ mod lines_tc;
 mod lines_tm;
 
 use crate::io::output::{Output, Written};
-use crate::link::fault::LinkFault;
 use crate::link::managed::Managed;
 use crate::link::totals::Totals;
 use crate::verbs::Verb;
 use crate::verbs::check::checked::Checked;
 use crate::verbs::check::discard::DiscardPackets;
 use crate::verbs::check::lines::{push_totals, remainder_lines};
+use sl_io::LinkFault;
 use std::alloc::Global;
 use std::io::Write;
 

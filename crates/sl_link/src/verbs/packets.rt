@@ -7,11 +7,11 @@ mod printer;
 
 use crate::io::output::{Output, Written};
 use crate::kind::Deliverer;
-use crate::link::fault::LinkFault;
 use crate::link::managed::Managed;
 use crate::link::totals::Totals;
 use crate::verbs::Verb;
 use crate::verbs::packets::printer::{ChannelKind, Printer};
+use sl_io::LinkFault;
 use sl_tcflow::Receiver;
 use sl_tmflow::Extractor;
 use std::alloc::Global;

@@ -8,12 +8,12 @@ pub mod shown;
 
 use crate::io::output::{Output, Written};
 use crate::io::words::push_remainder;
-use crate::link::fault::LinkFault;
 use crate::link::managed::Managed;
 use crate::link::totals::Totals;
 use crate::tally::FrameReport;
 use crate::verbs::Verb;
 use crate::verbs::show::shown::Shown;
+use sl_io::LinkFault;
 use std::io::Write;
 
 /// Lists the frames.

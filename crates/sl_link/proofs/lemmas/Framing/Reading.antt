@@ -5,9 +5,9 @@ use Rattle.std.proofs.KnownBytes.{Consumes-nil, Consumes-trans}
 use Rattle.sl_fields.proofs.ListLemmas.{concat-push, each-append}
 use Rattle.sl_link.specs.Link.Managed.{Parameters}
 use Rattle.sl_link.specs.Framing.{CutsFrame, HasCutFrames, HasCutAll, MayRefuseMemoryIn, StopsPassing}
-use Rattle.sl_link.specs.declared.link.counted.Counted.{Counted}
-use Rattle.sl_link.specs.declared.link.fault.LinkFault.{LinkFault}
-use Rattle.sl_link.specs.declared.link.fault.LinkFault.TheVariants.{Memory}
+use Rattle.sl_io.specs.declared.counted.Counted.{Counted}
+use Rattle.sl_io.specs.declared.fault.LinkFault.{LinkFault}
+use Rattle.sl_io.specs.declared.fault.LinkFault.TheVariants.{Memory}
 use Rattle.sl_link.specs.Link.Counted.{stream_of, faults_of, no_stream}
 use Rattle.sl_link.specs.Io.Streams.{IsCaused, Reads, ReadsSome, StopsReading}
 

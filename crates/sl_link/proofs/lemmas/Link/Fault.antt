@@ -6,7 +6,7 @@ use Rattle.sl_packet.specs.declared.sink.SinkFault.{SinkFault}
 use Rattle.sl_packet.specs.declared.sink.SinkFault.TheVariants as sink
 use Rattle.sl_packet.specs.Delivered.{PacketLists, AddsPacket}
 use Rattle.sl_packet.specs.Stopping.{IsStopped}
-use Rattle.sl_link.specs.declared.link.fault.LinkFault.TheVariants.{Memory}
+use Rattle.sl_io.specs.declared.fault.LinkFault.TheVariants.{Memory}
 use Rattle.sl_link.specs.Link.Fault.{flow_fault}
 
 -- where no call had failed before, that isn't why one fails now

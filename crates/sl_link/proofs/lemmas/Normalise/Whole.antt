@@ -1,12 +1,12 @@
 -- A recording that is read whole, and a normal form of it that is written after that.
 use Rattle.std.proofs.Common.{◌≡◌, ℕ, List, [], Option, append-nil, refl, subst, sym}
 use Rattle.std.proofs.KnownBytes.{Appends-nil}
-use Rattle.sl_link.specs.declared.link.counted.Counted.{Counted}
-use Rattle.sl_link.specs.declared.link.fault.LinkFault.{LinkFault}
+use Rattle.sl_io.specs.declared.counted.Counted.{Counted}
+use Rattle.sl_io.specs.declared.fault.LinkFault.{LinkFault}
 use Rattle.sl_link.specs.Io.Streams.{Reads, ReadsAll, Stops, StopsReading, StopsWriting, Translates, Writes, WritesText}
 use Rattle.sl_link.specs.Link.Counted.{stream_of}
 use Rattle.sl_link.specs.Framing.{MayRefuseMemoryAtSome}
-use Rattle.sl_link.proofs.lemmas.Io.Streams.{reader_caused, writer_caused}
+use Rattle.sl_io.proofs.StreamLemmas.{reader_caused, writer_caused}
 
 module _ {R W : Type 0} {remaining : R → Option (List ℕ)} {contents : W → Option (List ℕ)} {reader reader' : Counted R} {writer : Counted W} {text : List ℕ → List ℕ} {limit : ℕ} where
   -- a fault before anything is written,

@@ -7,9 +7,9 @@ use Rattle.clap.specs.Walk.{Text}
 use Rattle.clap.specs.declared.error.kind.ErrorKind.{ErrorKind}
 use Rattle.clap.specs.declared.error.kind.ErrorKind.TheVariants.{DisplayHelp, DisplayVersion, OutOfMemory}
 use Rattle.sl_packet.specs.Sink.{one_more}
-use Rattle.sl_link.specs.declared.link.counted.Counted.{Counted}
-use Rattle.sl_link.specs.declared.link.fault.LinkFault.{LinkFault}
-use Rattle.sl_link.specs.declared.link.fault.LinkFault.TheVariants.{Memory, Write}
+use Rattle.sl_io.specs.declared.counted.Counted.{Counted}
+use Rattle.sl_io.specs.declared.fault.LinkFault.{LinkFault}
+use Rattle.sl_io.specs.declared.fault.LinkFault.TheVariants.{Memory, Write}
 use Rattle.sl_link.specs.Program.Answer.{EndsAsHelp, WithAnswer, WithText, version_line}
 use Rattle.sl_link.specs.Program.CommandLine.{AskForHelp, AskForVersion, IsRefusal}
 use Rattle.sl_link.specs.Io.Streams.{TranslatesWithTotals}

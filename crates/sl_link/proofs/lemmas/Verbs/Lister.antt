@@ -2,16 +2,17 @@
 use Rattle.std.proofs.Common.{◌≡◌, ℕ, List, [], ◌∷◌, ◌++◌, Option, sym, ◌∙◌, ap, append_assoc, append-nil, ◌-◌, ◌≤◌, length, Result, Ok, Err, inl, inr}
 use Rattle.std.specs.List.{concat}
 use Rattle.sl_link.specs.declared.io.output.Output.{Output}
-use Rattle.sl_link.specs.declared.link.fault.LinkFault.{LinkFault}
+use Rattle.sl_io.specs.declared.fault.LinkFault.{LinkFault}
 use Rattle.sl_link.specs.Io.Output.{Adds, KeepsWriter}
 use Rattle.sl_link.specs.Verbs.Listing.{Frames, lines_from, EndsListing, Listing, listing_text}
-use Rattle.sl_link.specs.declared.link.counted.Counted.{Counted}
+use Rattle.sl_io.specs.declared.counted.Counted.{Counted}
 use Rattle.sl_link.specs.Link.Counted.{faults_of}
 use Rattle.sl_link.specs.Io.Streams.{Reads, StopsWriting, Translates, WritesPrefix}
 use Rattle.sl_link.specs.Framing.{PassesOver, StopsPassing, MayRefuseMemoryAtSome}
 use Rattle.sl_link.specs.Link.Totals.{Counts}
 use Rattle.sl_link.specs.Tally.{remainder_after}
-use Rattle.sl_link.proofs.lemmas.Io.Streams.{adds_both, stops_then, adds_none, reader_caused, stops_first, stops_last, writer_caused}
+use Rattle.sl_io.proofs.StreamLemmas.{reader_caused, writer_caused}
+use Rattle.sl_link.proofs.lemmas.Io.Streams.{adds_both, stops_then, adds_none, stops_first, stops_last}
 
 -- ---- frame by frame
 

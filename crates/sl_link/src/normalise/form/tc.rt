@@ -1,6 +1,6 @@
 //! The normal form of TC packets, written piece by piece.
-use crate::link::fault::LinkFault;
 use crate::normalise::form::Form;
+use sl_io::LinkFault;
 use sl_tcflow::TcForm;
 
 impl<'d> Form for TcForm<'d> {

@@ -38,7 +38,7 @@ impl<'a, 'b, W: Write> PacketSink for Printer<'a, 'b, W> {
     ghost use Rattle.sl_link.specs.Verbs.Packets.Line.{packet_line};
     ghost use Rattle.sl_link.specs.Io.Output.{Adds, KeepsWriter};
     ghost use Rattle.sl_link.specs.Io.Streams.{StopsWriting};
-    ghost use Rattle.sl_link.specs.declared.link.fault.LinkFault.TheVariants.{Write};
+    ghost use Rattle.sl_io.specs.declared.fault.LinkFault.TheVariants.{Write};
 
     ghost taking = { λ old channel packet new. (new.kind ≡ old.kind)
         × (new.out.ghost_name ≡ old.out.ghost_name) × Adds W.contents old.out.now

@@ -6,10 +6,10 @@ use Rattle.std.specs.Prelude.{flat_map}
 use Rattle.sl_link.specs.Verbs.Check.Checking.{AddsAnomalies, HasChecked}
 use Rattle.sl_link.specs.Verbs.Check.Lines.{event_anomaly, check_counts_in, end_anomalies, remainder_anomaly}
 use Rattle.sl_link.specs.declared.io.output.Output.{Output}
-use Rattle.sl_link.specs.declared.link.fault.LinkFault.{LinkFault}
+use Rattle.sl_io.specs.declared.fault.LinkFault.{LinkFault}
 use Rattle.sl_link.specs.Io.Output.{Adds}
 use Rattle.sl_link.specs.Io.Streams.{StopsWriting}
-use Rattle.sl_link.specs.declared.link.counted.Counted.{Counted}
+use Rattle.sl_io.specs.declared.counted.Counted.{Counted}
 use Rattle.sl_link.specs.Kind.Delivery.{AddsByChannel, Kind}
 use Rattle.sl_link.specs.Link.Totals.{Counts}
 use Rattle.sl_link.specs.Tally.{counts_with_remainder}

@@ -10,11 +10,11 @@ use Rattle.sl_packet.specs.Sink.{TakesAll}
 use Rattle.sl_packet.specs.Stopping.{IsStopped}
 use Rattle.hex.specs.Hex.{encode_lower}
 use Rattle.sl_link.specs.declared.io.output.Output.{Output}
-use Rattle.sl_link.specs.declared.link.fault.LinkFault.{LinkFault}
+use Rattle.sl_io.specs.declared.fault.LinkFault.{LinkFault}
 use Rattle.sl_link.specs.Io.Output.{Adds, KeepsWriter}
 use Rattle.sl_link.specs.Io.Streams.{StopsWriting}
-use Rattle.sl_link.specs.declared.link.counted.Counted.{Counted}
-use Rattle.sl_link.specs.declared.link.fault.LinkFault.TheVariants.{Write}
+use Rattle.sl_io.specs.declared.counted.Counted.{Counted}
+use Rattle.sl_io.specs.declared.fault.LinkFault.TheVariants.{Write}
 use Rattle.sl_link.specs.declared.verbs.packets.printer.ChannelKind.{ChannelKind}
 use Rattle.sl_link.specs.declared.verbs.packets.printer.Printer.{Printer}
 use Rattle.sl_link.specs.Link.Fault.{flow_fault}

@@ -1,0 +1,12 @@
+pub mod Marker
+pub mod MarkerModel
+pub mod Randomiser
+pub mod Units
+pub mod Held
+pub mod Cadu
+pub mod CodeBlock
+pub mod Cltu
+pub mod Totals
+pub mod Window
+pub mod Laws
+pub mod Reading

@@ -1,0 +1,91 @@
+//! Sync markers.
+ghost use Rattle.std.specs.Prelude.{◌≡◌, ◌≤◌, length, SomeIff};
+
+use arrayvec::ArrayVec;
+use std::marker::Model;
+
+/// A sync marker: octets that stand before each unit, as the attached sync marker (ASM) of
+/// CCSDS 131.0-B does, and how many of their bits may be wrong where the marker is searched.
+#[derive(Drop)]
+pub struct SyncMarker {
+    // The octets, of which there may be none.
+    octets: ArrayVec<u8, 16>,
+    // How many of their bits may be wrong.
+    errors: u32,
+}
+
+impl Model for SyncMarker {
+    ghost use Rattle.sl_sync.specs.Marker.{Marker};
+
+    ghost Value = { Marker };
+
+    ghost use Rattle.sl_sync.specs.MarkerModel.{marker_of, IsSyncMarker};
+
+    ghost view = { marker_of };
+
+    ghost invariant = { IsSyncMarker };
+}
+
+impl SyncMarker {
+    ghost use Rattle.sl_sync.specs.Marker.{IsMarker, Marker, is_marked, no_marker};
+
+    /// No octets. They stand anywhere, so that units lie end to end from the first octet on.
+    pub fn none() -> SyncMarker
+        ensures { result ≡ no_marker }
+    {
+        SyncMarker {
+            octets: ArrayVec::new(),
+            errors: 0,
+        }
+    }
+
+    /// The marker that has these octets, of whose bits `errors` may be wrong. More than 16 octets
+    /// are refused, and so is a number of wrong bits above a quarter of the bits.
+    pub fn new(octets: &[u8], errors: u32) -> Option<SyncMarker>
+        ensures { let marker : Marker = record { octets = octets.now; errors = errors } in
+            SomeIff result (IsMarker marker) marker }
+    {
+        if octets.len() > 16 || errors as usize > 2 * octets.len() {
+            return None;
+        }
+        let mut kept = ArrayVec::new();
+        kept.try_extend_from_slice(octets).ok()?;
+        Some(SyncMarker {
+            octets: kept,
+            errors,
+        })
+    }
+
+    /// The number of its octets, 16 at most.
+    pub(crate) fn len(&self) -> usize
+        ensures value { result ≡ length self.now.octets }
+        ensures most { result ≤ 16 }
+    {
+        self.octets.len()
+    }
+
+    /// Whether the marker is at the front of octets, with no more wrong bits than it may have.
+    /// Where they are fewer than its own, as much of it is looked for as can be there.
+    #[inline(always)]
+    pub(crate) fn is_at(&self, octets: &[u8]) -> bool
+        ensures { result ≡ is_marked self.now octets.now }
+    {
+        wrong_bits(self.octets.as_slice(), octets) <= self.errors
+    }
+}
+
+ghost use Rattle.sl_sync.specs.Marker.{wrong_bits};
+
+/// The wrong bits of a marker at the front of octets; where these end first, of as much of it as is
+/// there.
+#[inline(always)]
+pub fn wrong_bits(marker: &[u8], octets: &[u8]) -> u32
+    requires { length marker.now ≤ 16 }
+    ensures { result ≡ wrong_bits marker.now octets.now }
+{
+    let mut wrong = 0;
+    for i in 0..marker.len().min(octets.len()) {
+        wrong += (marker[i] ^ octets[i]).count_ones();
+    }
+    wrong
+}

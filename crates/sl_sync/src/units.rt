@@ -1,0 +1,59 @@
+//! The units of a file: what tells where one begins and what it holds.
+ghost use Rattle.std.specs.Prelude.{◌≡◌, ◌++◌, ◌≤◌, true, OnOk, IfOk};
+ghost use Rattle.std.specs.List.{concat};
+ghost use Rattle.sl_sync.specs.Held.{Holds};
+ghost use Rattle.sl_sync.specs.Units.{Rule};
+
+use std::alloc::AllocError;
+
+/// What came before a place of a file.
+#[derive(Clone, Copy)]
+pub enum Place {
+    /// No unit.
+    Start,
+    /// A unit that ends here, perhaps with octets behind it of one that the file's end cuts.
+    Next,
+    /// A unit, and octets that belong to none.
+    Astray,
+}
+
+/// What is counted of a unit.
+#[derive(Clone, Copy, Drop)]
+pub struct Held {
+    /// Its frames.
+    pub frames: u64,
+    /// Whether its own marker is there.
+    pub marked: bool,
+    /// The octets of a frame that it hasn't whole.
+    pub cut: u64,
+    /// Whether its last code block is followed by one that is refused.
+    pub refused: bool,
+    /// Its octets.
+    pub size: usize,
+}
+
+/// Units of one sort.
+pub trait Units {
+    /// What tells them.
+    ghost rule: { Self → Rule };
+
+    /// How many octets show what a unit is that begins with the first of them.
+    fn ahead(&self) -> usize
+        ensures { result ≡ (rule self.now).ahead };
+
+    /// Whether a unit begins here.
+    fn begins(&self, place: Place, octets: &[u8]) -> bool
+        ensures { result ≡ (rule self.now).begins place octets.now };
+
+    /// The place behind an octet with which no unit begins.
+    fn behind_stray(&self, place: Place, octets: &[u8]) -> Place
+        ensures { result ≡ (rule self.now).behind place octets.now };
+
+    /// Adds the frames of the unit that begins here to `text`, and counts what it holds.
+    fn push_unit(&self, octets: &[u8], text: &mut Vec<u8>) -> Result<Held, AllocError>
+        requires { (place : Place) × ((rule self.now).begins place octets.now ≡ true) }
+        ensures added { OnOk result (text.new.items
+            ≡ text.old.items ++ concat ((rule self.now).content octets.now).frames) }
+        ensures held { IfOk result (Holds ((rule self.now).content octets.now)
+            ((rule self.now).size octets.now)) };
+}

@@ -1,0 +1,2 @@
+-- the flush after the frames
+pub mod RunLemmas

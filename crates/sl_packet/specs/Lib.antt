@@ -9,3 +9,4 @@ pub mod PacketsModel
 pub mod Partial
 pub mod Sink
 pub mod Stopping
+pub mod Sublist

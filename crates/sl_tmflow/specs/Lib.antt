@@ -16,7 +16,6 @@ pub mod Progress
 pub mod Recording
 pub mod StepReport
 pub mod StepReportModel
-pub mod Sublist
 pub mod VirtualChannel
 pub use Rattle.sl_packet.specs.Delivered
 pub use Rattle.sl_packet.specs.Front
@@ -24,6 +23,7 @@ pub use Rattle.sl_packet.specs.Packet
 pub use Rattle.sl_packet.specs.Packets
 pub use Rattle.sl_packet.specs.Sink
 pub use Rattle.sl_packet.specs.Stopping
+pub use Rattle.sl_packet.specs.Sublist
 pub use Rattle.sl_tmframe.specs.PacketFrame
 pub use Rattle.sl_tmframe.specs.TmDelimited
 pub use Rattle.sl_tmframe.specs.TmFrame

@@ -9,7 +9,7 @@ use Rattle.sl_tmflow.specs.VirtualChannel.{AreConsecutive, views_on}
 use Rattle.sl_tmflow.specs.Delivery.{Delivery, IsDelivery, deliveries_of, packets_delivered}
 use Rattle.sl_tmflow.specs.Extractor.{handed_over}
 use Rattle.sl_tmflow.specs.Recording.{recorded_views, tm_lists}
-use Rattle.sl_tmflow.specs.Sublist.{IsSublist}
+use Rattle.sl_packet.specs.Sublist.{IsSublist}
 
 -- ---- which frames were kept
 

@@ -9,7 +9,7 @@ use Rattle.sl_tmflow.specs.Delivery.{deliveries_of, packets_delivered, packets_e
 use Rattle.sl_tmflow.specs.Extractor.{DeliveredAreHandedOver, ended_by, handed_over}
 use Rattle.sl_tmflow.specs.Loss.{HandedOverAreKept, HandedOverAreSublist}
 use Rattle.sl_tmflow.specs.Recording.{packets_of_channel}
-use Rattle.sl_tmflow.specs.Sublist.{IsSublist}
+use Rattle.sl_packet.specs.Sublist.{IsSublist}
 use Rattle.sl_tmflow.proofs.lemmas.Delivery.Channel.{other_seen, same_seen}
 use Rattle.sl_tmflow.proofs.lemmas.Delivery.Push.{delivered_push}
 use Rattle.sl_packet.proofs.WithoutIdleLemmas.{without_idle-append}

@@ -11,7 +11,7 @@ use Rattle.sl_tmflow.specs.Among.{IsAmong}
 use Rattle.sl_tmflow.specs.Delivery.{AreInOrder, Delivery, IsDelivery, StartsBefore, deliveries_of, packets_delivered}
 use Rattle.sl_tmflow.specs.Loss.{FewAreLost, IsSameDelivery, PacketsAreKept, PacketsAreSublist, RecordedAreKept, RecordedAreSublist, RunIsKept, TestTellsRun, keeps_run, recorded_channel, recorded_packets}
 use Rattle.sl_tmflow.specs.Recording.{packets_of_channel, recorded_views}
-use Rattle.sl_tmflow.specs.Sublist.{IsSublist}
+use Rattle.sl_packet.specs.Sublist.{IsSublist}
 use Rattle.sl_tmflow.proofs.lemmas.Delivery.Listed.{are_in_order, each_is_delivery, each_is_listed}
 use Rattle.sl_fields.proofs.ListLemmas.{each-both, each-filter, each-weaker}
 use Rattle.sl_tmflow.proofs.lemmas.Places.{each_among, some_passes}

@@ -1,0 +1,16 @@
+use Rattle.std.proofs.Common.{◌∙◌, ◌++◌, map, ap}
+use Rattle.std.specs.Prelude.{bytes_eq}
+use Rattle.std.specs.HashMap.{get_by}
+use Rattle.std.specs.List.{filter}
+use Rattle.sl_pair.specs.Left.{placed_at}
+use Rattle.sl_pair.specs.Waiting.{same_packet}
+use Rattle.sl_pair.proofs.LeftLemmas.{filter-added, one-found, one_place}
+use Rattle.sl_pair.proofs.left.push_places.Goals as goal
+
+pub returns : goal.returns
+returns g c = λ q.
+    let m = c.args.places.now in
+    let before = c.args.left.now.items in
+    filter-added one_place m.entries c.loop-octets.octets-iterator before c.loop-octets.left.items
+    c.into_iter-octets-iterator.ensures.into_iter_gives.4 c.in-None.ensures.steps.0 c.loop-octets.invariant q
+    ∙ ap (λ l. filter (same_packet q) before ++ map (placed_at q) l) (one-found (get_by (bytes_eq q) m))

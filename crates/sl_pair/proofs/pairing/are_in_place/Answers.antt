@@ -1,4 +1,4 @@
-use Rattle.std.proofs.Common.{◌≡◌, ◌<◌, ◌≤◌, length, arith, below_more, inl, inr, refl, sym, ◌∙◌}
+use Rattle.std.proofs.Common.{length, arith, below_more, inl, inr, refl}
 use Rattle.std.proofs.lemmas.Bool.{cases_lt}
 use Rattle.sl_pair.proofs.PairingLemmas.{channel_here, none_moved, past_channels}
 use Rattle.sl_pair.proofs.pairing.are_in_place.Goals as goal

@@ -1,4 +1,4 @@
-use Rattle.std.proofs.Common.{◌≡◌, refl, subst, sym}
+use Rattle.std.proofs.Common.{refl, subst, sym}
 use Rattle.sl_pair.specs.Pairing.{AreChannels}
 use Rattle.sl_pair.proofs.PairingLemmas.{matched_in_place, not_told, same_is_in_place, same_is_matched}
 use Rattle.sl_pair.proofs.pairing.Pairing.answer.Goals as goal

@@ -217,4 +217,4 @@ contracts:
 RT = rt
 check:
 	@unset MAKEFLAGS MFLAGS MAKELEVEL; python3 -B tests/lib/counts.py "$(RT) ci" \
-	  "(cd crates/sllink && $(RT) run -- --version) && tests/all"
+	  "(cd crates/sllink && $(RT) run -- --version) && (cd crates/sllink_frames && $(RT) run -- --version) && tests/all"

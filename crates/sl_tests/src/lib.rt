@@ -12,6 +12,8 @@ mod fields;
 #[cfg(test)]
 mod packet;
 #[cfg(test)]
+mod pair;
+#[cfg(test)]
 mod support;
 #[cfg(test)]
 mod tcflow;

@@ -18,7 +18,8 @@ use std::hash::BuildHasher;
 /// left in the end is the same.
 ///
 /// It keeps the packets that wait for their counterparts, with their numbers, and for each channel
-/// and APID how many packets came. Packets that were paired take no memory.
+/// and APID how many packets came. Packets that were paired take no memory. It refuses a packet only
+/// where memory is refused, and then nothing more is promised of it.
 ///
 /// The hasher should be made with a seed that nobody who writes a recording can know: so nobody can
 /// choose packets that collide.

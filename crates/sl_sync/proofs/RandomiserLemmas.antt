@@ -22,8 +22,12 @@ turn_more q = omega arith
 turn_place : (i : ℕ) → 8 * i ≡ 2040 * (i / 255) + 8 * (i % 255)
 turn_place i = omega arith
 
-turn_inside : (i : ℕ) → i % 255 < 255
-turn_inside i = omega arith
+-- the next place in a table, which begins again behind its end
+pub next_place : (i : ℕ) → i % 255 ≡ 254 → (i + 1) % 255 ≡ 0
+next_place i h = omega (arith, h)
+
+pub later_place : (i : ℕ) → (i % 255 ≡ 254 → ⊥) → (i + 1) % 255 ≡ i % 255 + 1
+later_place i h = omega (arith, h)
 
 -- where the register is all ones again after 255 octets, it is so after any number of these
 periods : (r : Randomiser) → later r 2040 255 ≡ 255 → (q : ℕ) → later r (2040 * q) 255 ≡ 255
@@ -46,17 +50,6 @@ octets_of-at r (suc n) register (suc j) h =
     let e : 8 * suc j ≡ 8 + 8 * j = omega arith in
     octets_of-at r n (later r 8 register) j (omega arith) ∙ sym (ap (λ (k : ℕ). later r k register) e ∙ later-add r 8 (8 * j) register)
 
--- a table of 255 octets of the sequence, after which it begins again, has all of it
-abbrev HasSequence : Randomiser → List ℕ → Type 0
-HasSequence r table = (i : ℕ) → get_or table (i % 255) 0 ≡ later r (8 * i) 255
-
-tabled : (r : Randomiser) (table : List ℕ) → octets_of r 255 255 ≡ table → later r 2040 255 ≡ 255 → HasSequence r table
-tabled r table same period i =
-    let turned : later r (8 * i) 255 ≡ later r (8 * (i % 255)) 255 =
-    ap (λ (k : ℕ). later r k 255) (turn_place i) ∙ later-add r (2040 * (i / 255)) (8 * (i % 255)) 255
-    ∙ ap (λ (s : ℕ). later r (8 * (i % 255)) s) (periods r period (i / 255)) in
-    ap (λ (t : List ℕ). get_or t (i % 255) 0) (sym same) ∙ octets_of-at r 255 255 (i % 255) (turn_inside i) ∙ sym turned
-
 tm_table : octets_of Tm 255 255 ≡ TM_SEQUENCE
 unfolding octets_of
 tm_table = refl
@@ -65,11 +58,23 @@ tc_table : octets_of Tc 255 255 ≡ TC_SEQUENCE
 unfolding octets_of
 tc_table = refl
 
-pub tm_sequence : HasSequence Tm TM_SEQUENCE
-tm_sequence = tabled Tm TM_SEQUENCE tm_table refl
+-- the octets of the tables
+pub tm_sequence : (i : ℕ) → i < 255 → get_or TM_SEQUENCE i 0 ≡ later Tm (8 * i) 255
+tm_sequence i h = ap (λ (t : List ℕ). get_or t i 0) (sym tm_table) ∙ octets_of-at Tm 255 255 i h
 
-pub tc_sequence : HasSequence Tc TC_SEQUENCE
-tc_sequence = tabled Tc TC_SEQUENCE tc_table refl
+pub tc_sequence : (i : ℕ) → i < 255 → get_or TC_SEQUENCE i 0 ≡ later Tc (8 * i) 255
+tc_sequence i h = ap (λ (t : List ℕ). get_or t i 0) (sym tc_table) ∙ octets_of-at Tc 255 255 i h
+
+-- after 255 octets the register is all ones again
+period : (r : Randomiser) → later r 2040 255 ≡ 255
+period Tm = refl
+period Tc = refl
+
+-- so each octet of the sequence is one of the first 255
+pub turned : (r : Randomiser) (i : ℕ) → later r (8 * (i % 255)) 255 ≡ later r (8 * i) 255
+turned r i =
+    sym (ap (λ (k : ℕ). later r k 255) (turn_place i) ∙ later-add r (2040 * (i / 255)) (8 * (i % 255)) 255
+    ∙ ap (λ (s : ℕ). later r (8 * (i % 255)) s) (periods r (period r) (i / 255)))
 
 -- ---- the sequence on octets
 

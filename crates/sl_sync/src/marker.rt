@@ -1,5 +1,5 @@
 //! Sync markers.
-ghost use Rattle.std.specs.Prelude.{◌≡◌, ◌≤◌, length, SomeIff};
+ghost use Rattle.std.specs.Prelude.{◌≡◌, ◌<◌, ◌≤◌, false, length, SomeIff};
 
 use arrayvec::ArrayVec;
 use std::marker::Model;
@@ -70,11 +70,24 @@ impl SyncMarker {
     pub(crate) fn is_at(&self, octets: &[u8]) -> bool
         ensures { result ≡ is_marked self.now octets.now }
     {
-        wrong_bits(self.octets.as_slice(), octets) <= self.errors
+        let marker = self.octets.as_slice();
+        begins_right(marker, self.errors, octets) && wrong_bits(marker, octets) <= self.errors
     }
 }
 
 ghost use Rattle.sl_sync.specs.Marker.{wrong_bits};
+
+// Whether the first octet has no more wrong bits than the whole marker may have. Most octets that
+// aren't a marker's are told by that.
+#[inline(always)]
+fn begins_right(marker: &[u8], errors: u32, octets: &[u8]) -> bool
+    ensures { result ≡ false → errors < wrong_bits marker.now octets.now }
+{
+    match (marker, octets) {
+        ([first, ..], [octet, ..]) => (*first ^ *octet).count_ones() <= errors,
+        _ => true,
+    }
+}
 
 /// The wrong bits of a marker at the front of octets; where these end first, of as much of it as is
 /// there.

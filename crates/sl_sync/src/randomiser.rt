@@ -1,5 +1,5 @@
 //! The randomisers of CCSDS 131.0-B and CCSDS 231.0-B.
-ghost use Rattle.std.specs.Prelude.{◌≡◌, ◌*◌};
+ghost use Rattle.std.specs.Prelude.{◌≡◌, ◌*◌, ◌<◌};
 ghost use Rattle.sl_sync.specs.Randomiser.{later, randomised, randomised_if};
 
 /// Which randomiser.
@@ -13,6 +13,7 @@ pub enum Randomiser {
 
 /// Adds the sequence of a randomiser to octets, where `on` is set: this takes it off where it is on
 /// them.
+#[inline(always)]
 pub fn randomise_if(on: bool, randomiser: Randomiser, octets: &mut [u8])
     ensures { octets.new ≡ randomised_if on randomiser octets.old }
 {
@@ -22,22 +23,26 @@ pub fn randomise_if(on: bool, randomiser: Randomiser, octets: &mut [u8])
 }
 
 // Adds the sequence of a randomiser to octets.
+#[inline(always)]
 fn randomise(randomiser: Randomiser, octets: &mut [u8])
     ensures { octets.new ≡ randomised randomiser octets.old }
 {
-    for i in 0..octets.len() {
-        octets[i] ^= sequence_at(randomiser, i);
+    let mut place = 0;
+    for octet in octets.iter_mut() {
+        *octet ^= sequence_at(randomiser, place);
+        place = if place == 254 { 0 } else { place + 1 };
     }
 }
 
 // The octet of a randomiser's sequence that has this number, from 0 on.
 #[inline(always)]
-fn sequence_at(randomiser: Randomiser, i: usize) -> u8
-    ensures { result ≡ later randomiser (8 * i) 255 }
+fn sequence_at(randomiser: Randomiser, place: usize) -> u8
+    requires { place < 255 }
+    ensures { result ≡ later randomiser (8 * place) 255 }
 {
     match randomiser {
-        Randomiser::Tm => TM_SEQUENCE[i % 255],
-        Randomiser::Tc => TC_SEQUENCE[i % 255],
+        Randomiser::Tm => TM_SEQUENCE[place],
+        Randomiser::Tc => TC_SEQUENCE[place],
     }
 }
 

@@ -62,6 +62,10 @@ module _ {S T : Type 0} {b : builder.Ghosts S T} {h : hasher.Ghosts T} where
   abbrev pub turn_of : Pairing S T b h → Station
   turn_of p = p.turn
 
+  -- the count of refused packets
+  abbrev pub failures_of : Pairing S T b h → ℕ
+  failures_of p = p.failures
+
 -- Of two things, one of each recording, those of this station and of the other one, as `holds` takes them: the first
 -- recording's before the second's.
 abbrev pub in_order : {X : Type 0} → Station → (X → X → Type 0) → X → X → Type 0

@@ -2,7 +2,7 @@
 ghost use Rattle.std.specs.Prelude.{◌≡◌, ◌↔◌, ◌<◌, ◌≤◌, ℕ, IfOk, IsTrue, OnOk, length};
 ghost use Rattle.std.specs.Vec.{vec_len};
 ghost use Rattle.sl_pair.specs.Pairing.{AreChannels, ByChannel, HaveSame, NothingIsLeft};
-ghost use Rattle.sl_pair.specs.Pairing.{StandsAfter, in_order, no_packets};
+ghost use Rattle.sl_pair.specs.Pairing.{StandsAfter, failures_of, in_order, no_packets};
 ghost use Rattle.sl_pair.specs.Pairing.{turn_of, with_packet};
 ghost use Rattle.sl_pair.specs.Placed.{AreInPlace, left_in};
 
@@ -18,8 +18,9 @@ use std::hash::BuildHasher;
 /// left in the end is the same.
 ///
 /// It keeps the packets that wait for their counterparts, with their numbers, and for each channel
-/// and APID how many packets came. Packets that were paired take no memory. It refuses a packet only
-/// where memory is refused, and then nothing more is promised of it.
+/// and APID how many packets came. Of packets that were paired it keeps no octets. No clause says
+/// what is kept: that is seen by reading. Its only fault is `Memory`, where memory was refused or
+/// 2^64 - 1 packets came on a channel, and then nothing more is promised of it.
 ///
 /// The hasher should be made with a seed that nobody who writes a recording can know: so nobody can
 /// choose packets that collide.
@@ -40,6 +41,7 @@ impl<S: BuildHasher + Copy> Pairing<S> {
     pub fn new(alloc: Global, hasher: S) -> Pairing<S>
         ensures none { StandsAfter result no_packets no_packets }
         ensures turn { turn_of result ≡ Station.First }
+        ensures failures { failures_of result ≡ 0 }
     {
         Pairing {
             alloc,
@@ -62,6 +64,7 @@ impl<S: BuildHasher + Copy> Pairing<S> {
         ensures turn { turn_of self.new ≡ station }
         ensures kept { (firsts seconds : ByChannel) → StandsAfter self.old firsts seconds
             → StandsAfter self.new firsts seconds }
+        ensures failures { failures_of self.new ≡ failures_of self.old }
     {
         self.turn = station;
     }

@@ -1,2 +1,2 @@
--- faults and their causes, and a text that is written
+-- faults and their causes, a text that is written, and the flush after it
 pub mod StreamLemmas

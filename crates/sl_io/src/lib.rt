@@ -8,4 +8,4 @@ mod streams;
 
 pub use counted::Counted;
 pub use fault::LinkFault;
-pub use streams::{read_some, write_text};
+pub use streams::{flush, read_some, write_text};

@@ -1,6 +1,8 @@
-//! Single reads, and single writes until a text is written. None is tried again after an error, an
-//! interrupted call included.
+//! Single reads, single writes until a text is written, and the flush after them. None is tried again
+//! after an error, an interrupted call included.
 ghost use Rattle.std.specs.Prelude.{◌≡◌, ◌≢◌, ◌-◌, [], IfOk, IfErr, OnOk, length};
+ghost use Rattle.std.specs.Io.KnownBytes.{Keeps};
+ghost use Rattle.sl_io.specs.Counted.{stream_of, faults_of, HadOneFault};
 ghost use Rattle.sl_io.specs.Streams.{Reads, ReadsSome, StopsReading, WritesText, StopsWriting};
 
 use crate::counted::Counted;
@@ -51,4 +53,17 @@ pub fn write_text<W: Write>(writer: &mut Counted<W>, text: &[u8]) -> Result<(), 
         }
     }
     Ok(())
+}
+
+/// Flushes what was written. An error of the writer is the fault `Write`.
+pub fn flush<W: Write>(writer: &mut Counted<W>) -> Result<(), LinkFault>
+    ensures kept { Keeps (W.contents (stream_of writer.old)) (W.contents (stream_of writer.new)) }
+    ensures ok { OnOk result (faults_of writer.new ≡ faults_of writer.old) }
+    ensures fault { IfErr result (λ fault. (fault ≡ LinkFault.Write)
+        × HadOneFault writer.old writer.new) }
+{
+    match writer.flush() {
+        Ok(()) => Ok(()),
+        Err(_) => Err(LinkFault::Write),
+    }
 }

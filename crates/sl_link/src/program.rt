@@ -1,10 +1,8 @@
 //! The program `sllink`, handed its words and its streams.
 ghost use Rattle.std.specs.Prelude.{◌≡◌, ◌≢◌, ◌≤◌, ◌⊎◌, map, string_bytes, OnOk, IfOk, IfErr};
-ghost use Rattle.std.specs.Io.KnownBytes.{Keeps};
 ghost use Rattle.clap.specs.Words.{kind_of};
 ghost use Rattle.sl_link.specs.Program.Answer.{EndsAsHelp, MayLackMemory, WithAnswer, WithText};
 ghost use Rattle.sl_link.specs.Program.CommandLine.{AreRefused};
-ghost use Rattle.sl_link.specs.Link.Counted.{stream_of, faults_of, HadOneFault};
 ghost use Rattle.sl_link.specs.Io.Streams.{StopsWriting, WritesText};
 ghost use Rattle.sl_link.specs.Engine.{HasWritten, IsStoppedBy};
 ghost use Rattle.sl_link.specs.Program.Run.{AsksForRefusedParameter, HasMetAnomalies, HasStopped, HasSucceeded, WithAsked};
@@ -17,7 +15,7 @@ use crate::link::totals::Totals;
 use clap::Error;
 use clap::error::ErrorKind;
 use command_line::{Asked, parse};
-use sl_io::{Counted, LinkFault, write_text};
+use sl_io::{Counted, LinkFault, flush, write_text};
 use std::alloc::{AllocError, Global};
 use std::io::{Read, Write};
 
@@ -147,19 +145,6 @@ fn run_and_flush<R: Read, W: Write>(
     let totals = run_engine(alloc, engine, managed, reader, writer)?;
     flush(writer)?;
     Ok(totals)
-}
-
-// Flushes what was written.
-fn flush<W: Write>(writer: &mut Counted<W>) -> Result<(), LinkFault>
-    ensures kept { Keeps (W.contents (stream_of writer.old)) (W.contents (stream_of writer.new)) }
-    ensures ok { OnOk result (faults_of writer.new ≡ faults_of writer.old) }
-    ensures fault { IfErr result (λ fault. (fault ≡ LinkFault.Write)
-        × HadOneFault writer.old writer.new) }
-{
-    match writer.flush() {
-        Ok(()) => Ok(()),
-        Err(_) => Err(LinkFault::Write),
-    }
 }
 
 // Names a fault on the error output, and returns the exit status.

@@ -1,11 +1,9 @@
 //! A run over a reader and a writer.
-ghost use Rattle.std.specs.Prelude.{◌≡◌, ◌≢◌, ◌≤◌, IfOk, IfErr, OnOk};
-ghost use Rattle.std.specs.Io.KnownBytes.{Keeps};
-ghost use Rattle.sl_io.specs.Counted.{stream_of, faults_of, HadOneFault};
+ghost use Rattle.std.specs.Prelude.{◌≡◌, ◌≢◌, ◌≤◌, IfOk, IfErr};
 ghost use Rattle.sllink_frames.specs.Run.{HasEnded, HasStopped, HasWritten, IsStoppedBy, status_of};
 
 use crate::command_line::Shape;
-use sl_io::{Counted, LinkFault};
+use sl_io::{Counted, LinkFault, flush};
 use sl_sync::{Totals, read_cadus, read_cltus};
 use std::alloc::Global;
 use std::io::{Read, Write};
@@ -77,19 +75,6 @@ fn write_frames<R: Read, W: Write>(
     match shape {
         Shape::Cadu(shape) => read_cadus(alloc, shape, reader, writer),
         Shape::Cltu(shape) => read_cltus(alloc, shape, reader, writer),
-    }
-}
-
-// Flushes what was written.
-fn flush<W: Write>(writer: &mut Counted<W>) -> Result<(), LinkFault>
-    ensures kept { Keeps (W.contents (stream_of writer.old)) (W.contents (stream_of writer.new)) }
-    ensures ok { OnOk result (faults_of writer.new ≡ faults_of writer.old) }
-    ensures fault { IfErr result (λ fault. (fault ≡ LinkFault.Write)
-        × HadOneFault writer.old writer.new) }
-{
-    match writer.flush() {
-        Ok(()) => Ok(()),
-        Err(_) => Err(LinkFault::Write),
     }
 }
 

@@ -1,5 +1,6 @@
 use Rattle.sl_link.proofs.lemmas.Link.Answers.{passed_up}
-use Rattle.sl_link.proofs.lemmas.Program.Run.{stopped_flushing, written_flushed}
+use Rattle.sl_io.proofs.StreamLemmas.{written_flushed}
+use Rattle.sl_link.proofs.lemmas.Program.Run.{stopped_flushing}
 use Rattle.sl_link.proofs.program.run_and_flush.Goals as goal
 
 pub returns-in_err-flush-clause-stopped : goal.returns-in_err-flush-clause-stopped

@@ -1,11 +1,11 @@
+use Rattle.sl_io.proofs.StreamLemmas.{stopped_flushing, written_flushed}
 use Rattle.sl_sync.proofs.ReadingLemmas.{passed_up}
-use Rattle.sllink_frames.proofs.RunLemmas.{stopped-flushing, written-flushed}
 use Rattle.sllink_frames.proofs.run.write_and_flush.Goals as goal
 
 pub returns-in_err-flush-clause-stopped : goal.returns-in_err-flush-clause-stopped
 returns-in_err-flush-clause-stopped g c =
     passed_up _ _ c.from_residual-in_err-flush.ensures.1
-    (stopped-flushing c.args.shape.now c.in_ok-totals.totals c.in_ok-totals.ensures.written c.flush.ensures.kept c.in_err-flush.ensures.fault.0 c.in_err-flush.ensures.fault.1)
+    (stopped_flushing c.in_ok-totals.ensures.written.translated c.flush.ensures.kept c.in_err-flush.ensures.fault.0 c.in_err-flush.ensures.fault.1)
 
 pub returns-clause-written : goal.returns-clause-written
-returns-clause-written g c = written-flushed c.args.shape.now c.in_ok-totals.totals c.in_ok-totals.ensures.written c.flush.ensures.kept c.in_ok-flush.ensures.ok
+returns-clause-written g c = written_flushed c.in_ok-totals.ensures.written c.flush.ensures.kept c.in_ok-flush.ensures.ok

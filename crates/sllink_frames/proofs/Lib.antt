@@ -1,2 +1,0 @@
--- the flush after the frames
-pub mod RunLemmas

@@ -1,5 +1,7 @@
 -- What proofs stand on: lemmas over the definitions, in the same folders as these.
 
+-- two recordings that are read in turns
+pub mod Compare
 -- chunks divided into frames
 pub mod Framing
 -- lines that wait, digits, and streams

@@ -95,6 +95,16 @@ pub record MayRefuseMemoryIn (frames_of : List ℕ → List (List ℕ)) (may_ref
   pub in_order : frames_of recording ≡ first ++ later
   pub at_last : may_refuse_memory first
 
+-- These are the octets of a recording that were read so far, n of them and no more than the limit, and this holds of
+-- them.
+pub record HasPassed {R : Type 0} (remaining : R → Option (List ℕ)) (begun reader : Counted R) (limit n : ℕ)
+    (handed : List ℕ → Type 0) (so_far : List ℕ) : Type 0 where
+  pub read : Reads remaining begun reader so_far
+  pub size : n ≡ length so_far
+  pub allowed : n ≤ limit
+  pub no_fault : faults_of reader ≡ faults_of begun
+  pub all : handed so_far
+
 -- ---- the frames of one chunk
 
 -- These frames are at the front of the octets so far, and `taken` holds of them. What came after them waits in the

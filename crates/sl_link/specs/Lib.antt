@@ -1,3 +1,4 @@
+pub mod Compare
 pub mod Engine
 pub mod Framing
 pub mod Io

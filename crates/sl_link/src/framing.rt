@@ -1,6 +1,7 @@
 //! A recording that is read once, chunk by chunk, and handed over frame by frame.
-ghost use Rattle.std.specs.Prelude.{◌^◌, ◌<◌, [], ℕ, List, length, IfOk, IfErr, OnOk};
-ghost use Rattle.sl_link.specs.Framing.{HasCutFrames, HasCutAll, PassesOver, StopsPassing};
+ghost use Rattle.std.specs.Prelude.{◌≡◌, ◌+◌, ◌^◌, ◌<◌, ◌++◌, [], ℕ, List, length, IfOk, IfErr, OnOk};
+ghost use Rattle.sl_link.specs.Framing.{HasCutFrames, HasCutAll, HasPassed, PassesOver, StopsPassing};
+ghost use Rattle.sl_link.specs.Io.Streams.{IsRead};
 
 mod frame_sink;
 mod framer;
@@ -37,16 +38,58 @@ pub fn read_recording<F: Framer, S: FrameSink, R: Read>(
         (F.frames_of managed.now) (S.took managed.now sink.old sink.new)
         (S.stopped managed.now sink.old sink.new) managed.now.max_octets (length buffer.old)) }
 {
-    let limit = managed.max_octets;
     let mut octets = 0;
     loop {
-        let taken = read_some(reader, buffer, limit - octets)?;
+        let taken = read_chunk(managed, framer, sink, reader, buffer, octets)?;
         if taken == 0 {
             return Ok(octets);
         }
         octets += taken as u64;
-        cut_chunk(managed, framer, sink, &buffer[..taken])?;
     }
+}
+
+/// Reads the next chunk of a recording of which `octets` octets were read, and hands over the
+/// frames that it completes. Answers how many octets came, 0 where the recording ended. A clause
+/// holds whatever was read before: for each reader `begun` with which the reading may have begun,
+/// each such value `start` of the sink, and all octets `so_far` that may have been read.
+pub fn read_chunk<F: Framer, S: FrameSink, R: Read>(
+    managed: &Managed,
+    framer: &mut F,
+    sink: &mut S,
+    reader: &mut Counted<R>,
+    buffer: &mut [u8],
+    octets: u64,
+) -> Result<usize, LinkFault>
+    requires room { 0 < length buffer.old }
+    requires fits { (frame : List ℕ) → F.is_frame managed.now frame → S.is_frame managed.now frame }
+    requires ready { (begun : Counted R) × (start : S) × (so_far : List ℕ)
+        × HasPassed R.remaining begun reader.old managed.now.max_octets octets
+        (HasCutAll F.is_frame F.waits F.frames_of (S.took managed.now start sink.old) managed.now
+        framer.old) so_far }
+    ensures passed { IfOk result (λ taken. (begun : Counted R) (start : S) (so_far : List ℕ)
+        → HasPassed R.remaining begun reader.old managed.now.max_octets octets
+        (HasCutAll F.is_frame F.waits F.frames_of (S.took managed.now start sink.old) managed.now
+        framer.old) so_far
+        → (chunk : List ℕ)
+        × HasPassed R.remaining begun reader.new managed.now.max_octets (octets + taken)
+        (HasCutAll F.is_frame F.waits F.frames_of (S.took managed.now start sink.new) managed.now
+        framer.new) (so_far ++ chunk)) }
+    ensures end { IfOk result (λ taken. taken ≡ 0 → IsRead R.remaining reader.new) }
+    ensures fits { IfOk result (λ taken. octets + taken < 2 ^ 64) }
+    ensures fault { IfErr result (λ fault. (begun : Counted R) (start : S) (so_far : List ℕ)
+        → HasPassed R.remaining begun reader.old managed.now.max_octets octets
+        (HasCutAll F.is_frame F.waits F.frames_of (S.took managed.now start sink.old) managed.now
+        framer.old) so_far
+        → StopsPassing R.remaining begun reader.new (F.frames_of managed.now)
+        (S.took managed.now start sink.new) (S.stopped managed.now start sink.new)
+        managed.now.max_octets (length buffer.old) fault) }
+{
+    let taken = read_some(reader, buffer, managed.max_octets - octets)?;
+    if taken == 0 {
+        return Ok(0);
+    }
+    cut_chunk(managed, framer, sink, &buffer[..taken])?;
+    Ok(taken)
 }
 
 /// Hands over the frames that a chunk completes, and then pauses. A clause holds whatever came

@@ -19,6 +19,7 @@
 //! How a recording goes through the modules is drawn in docs/architecture.md.
 #![tactic(auto)]
 
+mod compare;
 mod engine;
 mod framing;
 mod io;
@@ -32,6 +33,7 @@ mod same;
 mod tally;
 mod verbs;
 
+pub use compare::{Compared, compare_tc, compare_tm};
 pub use engine::{Engine, RecordingKind, VerbName, run_engine};
 pub use link::managed::{Managed, ManagedFault};
 pub use link::totals::Totals;

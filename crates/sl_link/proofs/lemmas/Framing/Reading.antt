@@ -4,12 +4,12 @@ use Rattle.std.specs.List.{concat, AllByRecursion}
 use Rattle.std.proofs.KnownBytes.{Consumes-nil, Consumes-trans}
 use Rattle.sl_fields.proofs.ListLemmas.{concat-push, each-append}
 use Rattle.sl_link.specs.Link.Managed.{Parameters}
-use Rattle.sl_link.specs.Framing.{CutsFrame, HasCutFrames, HasCutAll, MayRefuseMemoryIn, StopsPassing}
+use Rattle.sl_link.specs.Framing.{CutsFrame, HasCutFrames, HasCutAll, HasPassed, MayRefuseMemoryAtSome, MayRefuseMemoryIn, PassesOver, StopsPassing}
 use Rattle.sl_io.specs.declared.counted.Counted.{Counted}
 use Rattle.sl_io.specs.declared.fault.LinkFault.{LinkFault}
 use Rattle.sl_io.specs.declared.fault.LinkFault.TheVariants.{Memory}
-use Rattle.sl_link.specs.Link.Counted.{stream_of, faults_of, no_stream}
-use Rattle.sl_link.specs.Io.Streams.{IsCaused, Reads, ReadsSome, StopsReading}
+use Rattle.sl_link.specs.Link.Counted.{stream_of, no_stream}
+use Rattle.sl_link.specs.Io.Streams.{IsCaused, IsRead, Reads, ReadsSome, StopsReading}
 
 -- ---- frames handed over
 
@@ -71,36 +71,26 @@ module _ {F : Type 0} {is_frame : Parameters → List ℕ → Type 0} {waits : F
 
 -- ---- pieces read
 
--- this number of octets was read, and this is true of them
-pub record IsPassing {R : Type 0} (remaining : R → Option (List ℕ)) (reader mid : Counted R) (limit n : ℕ) (handed : List ℕ → Type 0) : Type 0 where
-  pub octets : List ℕ
-  pub read : Reads remaining reader mid octets
-  pub size : n ≡ length octets
-  pub allowed : n ≤ limit
-  pub no_fault : faults_of mid ≡ faults_of reader
-  pub all : handed octets
-
-pub passing_none : {R : Type 0} {remaining : R → Option (List ℕ)} {reader : Counted R} {limit : ℕ} {handed : List ℕ → Type 0} → handed [] → IsPassing remaining reader reader limit 0 handed
-passing_none {remaining} {reader} all = record { octets = []; read = Consumes-nil (remaining (stream_of reader)); size = refl; allowed = omega arith; no_fault = refl; all = all }
+pub passing_none : {R : Type 0} {remaining : R → Option (List ℕ)} {reader : Counted R} {limit : ℕ} {handed : List ℕ → Type 0} → handed [] → HasPassed remaining reader reader limit 0 handed []
+passing_none {remaining} {reader} all = record { read = Consumes-nil (remaining (stream_of reader)); size = refl; allowed = omega arith; no_fault = refl; all = all }
 
 module _ {R F : Type 0} {remaining : R → Option (List ℕ)} {is_frame : Parameters → List ℕ → Type 0} {waits : F → Parameters → List ℕ → Type 0} {frames_of : Parameters → List ℕ → List (List ℕ)}
-    {taken : List (List ℕ) → Type 0} {p : Parameters} {framer : F} {reader mid : Counted R} {limit n : ℕ} (s : IsPassing remaining reader mid limit n (HasCutAll is_frame waits frames_of taken p framer)) where
+    {taken : List (List ℕ) → Type 0} {p : Parameters} {framer : F} {reader mid : Counted R} {limit n : ℕ} {octets : List ℕ} (s : HasPassed remaining reader mid limit n (HasCutAll is_frame waits frames_of taken p framer) octets) where
   -- a chunk more
-  abbrev pub more_came : (chunk : List ℕ) → HasCutFrames is_frame waits taken p framer (s.octets ++ chunk) chunk
+  abbrev pub more_came : (chunk : List ℕ) → HasCutFrames is_frame waits taken p framer (octets ++ chunk) chunk
   more_came chunk =
       let h = s.all.cut in
       record { frames = h.frames; rest = h.rest; waiting = h.waiting; parts = ap (λ l. l ++ chunk) h.parts ∙ simp (append_assoc, append-nil); whole = h.whole; done = h.done }
 
-  reads_on : (reader' : Counted R) (chunk : List ℕ) → Reads remaining mid reader' chunk → Reads remaining reader reader' (s.octets ++ chunk)
-  reads_on reader' chunk came = Consumes-trans (remaining (stream_of reader)) (remaining (stream_of mid)) (remaining (stream_of reader')) s.octets chunk s.read came
+  reads_on : (reader' : Counted R) (chunk : List ℕ) → Reads remaining mid reader' chunk → Reads remaining reader reader' (octets ++ chunk)
+  reads_on reader' chunk came = Consumes-trans (remaining (stream_of reader)) (remaining (stream_of mid)) (remaining (stream_of reader')) octets chunk s.read came
 
   module _ {reader' : Counted R} {buffer : List ℕ} {k : ℕ} (came : ReadsSome remaining mid reader' buffer (limit - n) k) where
-    pub size_next : n + k ≡ length (s.octets ++ take k buffer)
-    size_next = omega (arith, s.size, length-append s.octets (take k buffer), length-take-le k buffer came.inside)
+    pub size_next : n + k ≡ length (octets ++ take k buffer)
+    size_next = omega (arith, s.size, length-append octets (take k buffer), length-take-le k buffer came.inside)
 
-    pub passing_next : {handed : List ℕ → Type 0} → handed (s.octets ++ take k buffer) → IsPassing remaining reader reader' limit (n + k) handed
+    pub passing_next : {handed : List ℕ → Type 0} → handed (octets ++ take k buffer) → HasPassed remaining reader reader' limit (n + k) handed (octets ++ take k buffer)
     passing_next all = record {
-      octets = s.octets ++ take k buffer;
       read = reads_on reader' (take k buffer) came.read;
       size = size_next;
       allowed = omega (arith, came.allowed, s.allowed);
@@ -108,16 +98,29 @@ module _ {R F : Type 0} {remaining : R → Option (List ℕ)} {is_frame : Parame
       all = all;
     }
 
-  caused : (reader' : Counted R) (most room past : ℕ) (octets : List ℕ) (fault : LinkFault) → limit ≡ most → past ≤ room → IsCaused mid reader' no_stream no_stream (limit - n) past octets fault
-      → IsCaused reader reader' no_stream no_stream most room (s.octets ++ octets) fault
-  caused reader' most room past octets fault same fits cause = grind (arith, length-append, s.no_fault, s.size, s.allowed)
+  -- the recording ended
+  pub passes_over : IsRead remaining mid → PassesOver remaining reader mid (frames_of p) taken limit n
+  passes_over ended = record {
+    octets = octets;
+    within = omega (arith, s.size, s.allowed);
+    read = s.read;
+    to_end = ended;
+    no_fault = s.no_fault;
+    size = s.size;
+    inside = rw s.all.all (omega (arith, ap length s.all.cut.parts, length-append (concat s.all.cut.frames) (s.all.cut.rest ++ [])));
+    all = rw s.all.all s.all.cut.done;
+  }
+
+  caused : (reader' : Counted R) (most room past : ℕ) (more : List ℕ) (fault : LinkFault) → limit ≡ most → past ≤ room → IsCaused mid reader' no_stream no_stream (limit - n) past more fault
+      → IsCaused reader reader' no_stream no_stream most room (octets ++ more) fault
+  caused reader' most room past more fault same fits cause = grind (arith, length-append, s.no_fault, s.size, s.allowed)
 
   module _ (front : (p : Parameters) (frame more : List ℕ) → is_frame p frame → frames_of p (frame ++ more) ≡ frame ∷ frames_of p more) {reader' : Counted R} {stopped : List (List ℕ) → LinkFault → Type 0} {fault : LinkFault} where
     -- the reader stopped
     pub stops_reading : {most room past : ℕ} → limit ≡ most → past ≤ room → StopsReading remaining mid reader' (limit - n) past fault → fault ≢ Memory
         → StopsPassing remaining reader reader' (frames_of p) taken stopped most room fault
     stops_reading {most} {room} {past} same fits r not_memory = record {
-      octets = s.octets ++ r.octets;
+      octets = octets ++ r.octets;
       read = reads_on reader' r.octets r.read;
       first = s.all.cut.frames;
       later = frames_of p (s.all.cut.rest ++ r.octets);
@@ -126,13 +129,57 @@ module _ {R F : Type 0} {remaining : R → Option (List ℕ)} {is_frame : Parame
     }
 
     -- the sink stopped at a frame of a chunk, or after it
-    pub stops_in_chunk : {most room k : ℕ} {buffer left : List ℕ} {framer' : F} {taken' : List (List ℕ) → Type 0} → limit ≡ most → ReadsSome remaining mid reader' buffer (limit - n) k → HasCutFrames is_frame waits (λ frames. stopped frames fault) p framer' (s.octets ++ take k buffer) left
+    pub stops_in_chunk : {most room k : ℕ} {buffer left : List ℕ} {framer' : F} {taken' : List (List ℕ) → Type 0} → limit ≡ most → ReadsSome remaining mid reader' buffer (limit - n) k → HasCutFrames is_frame waits (λ frames. stopped frames fault) p framer' (octets ++ take k buffer) left
         → StopsPassing remaining reader reader' (frames_of p) taken' stopped most room fault
     stops_in_chunk {most} {room} {k} {buffer} {left} same came h = record {
-      octets = s.octets ++ take k buffer;
+      octets = octets ++ take k buffer;
       read = reads_on reader' (take k buffer) came.read;
       first = h.frames;
       later = frames_of p (h.rest ++ left);
       in_order = taken_first h front;
       cause = inr (h.done, came.no_fault ∙ s.no_fault, omega (arith, same, size_next came, came.allowed, s.allowed));
     }
+
+-- the same octets, of whose frames something else holds
+pub passed_as : {R F : Type 0} {remaining : R → Option (List ℕ)} {is_frame : Parameters → List ℕ → Type 0} {waits : F → Parameters → List ℕ → Type 0} {frames_of : Parameters → List ℕ → List (List ℕ)}
+    {taken taken' : List (List ℕ) → Type 0} {p : Parameters} {framer : F} {reader mid : Counted R} {limit n : ℕ} {octets : List ℕ} → ((frames : List (List ℕ)) → taken frames → taken' frames)
+    → HasPassed remaining reader mid limit n (HasCutAll is_frame waits frames_of taken p framer) octets → HasPassed remaining reader mid limit n (HasCutAll is_frame waits frames_of taken' p framer) octets
+passed_as weaker s =
+    let h = s.all.cut in
+    record {
+      read = s.read;
+      size = s.size;
+      allowed = s.allowed;
+      no_fault = s.no_fault;
+      all = record { cut = record { frames = h.frames; rest = h.rest; waiting = h.waiting; parts = h.parts; whole = h.whole; done = weaker h.frames h.done }; all = s.all.all };
+    }
+
+-- ---- a recording that is read without being written
+
+module _ {R : Type 0} {remaining : R → Option (List ℕ)} {reader reader' : Counted R} {frames_of : List ℕ → List (List ℕ)} {taken : List (List ℕ) → Type 0} {stopped : List (List ℕ) → LinkFault → Type 0} {limit past : ℕ} {fault : LinkFault}
+    (s : StopsPassing remaining reader reader' frames_of taken stopped limit past fault) where
+  -- it stopped at its reader, or for want of memory
+  pub stops_alone : ((frames : List (List ℕ)) → stopped frames fault → fault ≡ Memory) → StopsReading remaining reader reader' limit past fault
+  stops_alone of_memory = record {
+    octets = s.octets;
+    read = s.read;
+    cause = elim s.cause [
+      | inl at ↦ at.2
+      | inr at ↦ rw (of_memory s.first at.0) (at.1, refl, at.2)
+    ];
+  }
+
+  -- and memory was refused at some frame
+  pub memory_of : {its : List ℕ → List (List ℕ)} {may : List (List ℕ) → Type 0} → frames_of ≡ its → ((frames : List (List ℕ)) → stopped frames fault → may frames) → fault ≡ Memory
+      → MayRefuseMemoryAtSome remaining reader reader' its may
+  memory_of same may is_memory = record {
+    octets = s.octets;
+    read = s.read;
+    first = s.first;
+    later = s.later;
+    in_order = sym (ap (λ (f : List ℕ → List (List ℕ)). f s.octets) same) ∙ s.in_order;
+    at_last = elim s.cause [
+      | inl at ↦ absurd (at.1 is_memory)
+      | inr at ↦ may s.first at.0
+    ];
+  }

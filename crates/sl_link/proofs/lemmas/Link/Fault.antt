@@ -4,7 +4,6 @@ use Rattle.sl_packet.specs.declared.flow_fault.FlowFault.{FlowFault}
 use Rattle.sl_packet.specs.declared.flow_fault.FlowFault.TheVariants as flow
 use Rattle.sl_packet.specs.declared.sink.SinkFault.{SinkFault}
 use Rattle.sl_packet.specs.declared.sink.SinkFault.TheVariants as sink
-use Rattle.sl_packet.specs.Delivered.{PacketLists, AddsPacket}
 use Rattle.sl_packet.specs.Stopping.{IsStopped}
 use Rattle.sl_io.specs.declared.fault.LinkFault.TheVariants.{Memory}
 use Rattle.sl_link.specs.Link.Fault.{flow_fault}
@@ -19,16 +18,16 @@ pub memory_alone : {S : Type 0} (taking : S → ℕ → List ℕ → S → Type 
     → IsStopped taking (λ old channel packet fault new. ⊥) failures old channel packets fault new → fault ≡ flow.Memory
 memory_alone taking failures packets old new channel fault stopped = grind arith
 
--- ---- the store of delivered packets
+-- ---- a store of packets
 
-module _ (failing : PacketLists → ℕ → List ℕ → SinkFault → PacketLists → Type 0) (failures : PacketLists → ℕ) where
+module _ {S : Type 0} (taking : S → ℕ → List ℕ → S → Type 0) (failing : S → ℕ → List ℕ → SinkFault → S → Type 0) (failures : S → ℕ) where
   -- it refuses packets for want of memory alone
-  pub memory_refused : ((old : PacketLists) (channel : ℕ) (packet : List ℕ) (fault : SinkFault) (new : PacketLists) → failing old channel packet fault new → fault ≡ sink.Memory)
-      → (packets : List (List ℕ)) (old new : PacketLists) (channel : ℕ) (fault : FlowFault)
-      → IsStopped AddsPacket failing failures old channel packets fault new → flow_fault fault ≡ Memory
+  pub memory_refused : ((old : S) (channel : ℕ) (packet : List ℕ) (fault : SinkFault) (new : S) → failing old channel packet fault new → fault ≡ sink.Memory)
+      → (packets : List (List ℕ)) (old new : S) (channel : ℕ) (fault : FlowFault)
+      → IsStopped taking failing failures old channel packets fault new → flow_fault fault ≡ Memory
   memory_refused only packets old new channel fault stopped = grind arith
 
   -- the fault is `Memory` of the extractor or the receiver itself, where X holds, or a packet was to be handed over
-  pub incomplete_or_some : {X : Type 0} (packets : List (List ℕ)) (old new : PacketLists) (channel : ℕ) (fault : FlowFault)
-      → IsStopped AddsPacket failing failures old channel packets fault new → (fault ≡ flow.Memory → X) → X ⊎ (0 < length packets)
+  pub incomplete_or_some : {X : Type 0} (packets : List (List ℕ)) (old new : S) (channel : ℕ) (fault : FlowFault)
+      → IsStopped taking failing failures old channel packets fault new → (fault ≡ flow.Memory → X) → X ⊎ (0 < length packets)
   incomplete_or_some packets old new channel fault stopped allowed = grind (arith, length-append)

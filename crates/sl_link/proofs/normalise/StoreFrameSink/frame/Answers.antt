@@ -19,8 +19,8 @@ returns-in_err-report-clause-fault g c =
     let p = c.args.managed.now in
     let had = t.0.processed in
     let s = c.in_err-report.ensures.stopped before had in (
-      memory_refused _ _ (λ old channel packet fault new fails. fails.0) _ _ _ _ _ s,
-      elim (incomplete_or_some _ _ _ _ _ _ _ s (c.in_err-report.ensures.memory before had)) [
+      memory_refused _ _ _ (λ old channel packet fault new fails. fails.0) _ _ _ _ _ s,
+      elim (incomplete_or_some _ _ _ _ _ _ _ _ s (c.in_err-report.ensures.memory before had)) [
         | inl incomplete ↦ inl incomplete
         | inr some ↦ inr (omega (arith, some, packets_more (g.D.Deliverer.kind p) (g.met.D.Deliverer.within _ p before had).adds before c.args.frame.now))
       ],

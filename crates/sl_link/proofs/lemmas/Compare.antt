@@ -1,0 +1,3 @@
+-- Two recordings that are compared.
+pub mod Ends
+pub mod Turns

@@ -1,0 +1,220 @@
+//! Which packets only one of two recordings delivers.
+ghost use Rattle.std.specs.Prelude.{◌≡◌, ◌⊎◌, ◌<◌, ◌-◌, [], ℕ, List, IfOk, IfErr, IfSome, IfNone, true, false};
+ghost use Rattle.sl_tcframe.specs.TcDelimited.{tc_frames_of};
+ghost use Rattle.sl_tmframe.specs.TmDelimited.{tm_frames_of};
+ghost use Rattle.sl_link.specs.Compare.{Compares, ReadsBeginning};
+ghost use Rattle.sl_link.specs.Io.Streams.{StopsReading};
+ghost use Rattle.sl_link.specs.Kind.Delivery.{MayRefuseStoreMemory, counts_in, packets_by_channel};
+ghost use Rattle.sl_link.specs.Kind.Tc.{MayRefuseStoreMemoryTc, tc_counts, tc_packets};
+ghost use Rattle.sl_link.specs.Kind.Tm.{MayRefuseStoreMemoryTm, tm_counts, tm_packets};
+ghost use Rattle.sl_link.specs.Link.Managed.{Parameters, tc_format};
+ghost use Rattle.sl_link.specs.Tally.{recording_counts};
+ghost use Rattle.sl_link.specs.Framing.{MayRefuseMemoryAtSome, chunk_size};
+
+mod turns;
+
+use crate::framing::{CHUNK_SIZE, Framer};
+use crate::kind::Deliverer;
+use crate::link::managed::Managed;
+use crate::link::totals::Totals;
+use sl_io::{Counted, LinkFault};
+use sl_pair::{Answer, Pairing, Station};
+use sl_tcflow::Receiver;
+use sl_tcframe::TcFramer;
+use sl_tmflow::Extractor;
+use sl_tmframe::TmFramer;
+use std::alloc::Global;
+use std::hash::BuildHasher;
+use std::io::Read;
+use turns::{Recording, read_turn};
+
+/// How two recordings compare.
+#[derive(Drop)]
+pub struct Compared<S: BuildHasher + Copy> {
+    /// Whether both deliver the same packets.
+    pub answer: Answer,
+    /// What was counted in the first recording.
+    pub first: Totals,
+    /// What was counted in the second recording.
+    pub second: Totals,
+    /// What is left of both: the packets that only one of them delivers.
+    pub left: Pairing<S>,
+}
+
+/// Reads two recordings of TM transfer frames to their ends, in turns, and answers which packets
+/// only one of them delivers on each virtual channel, idle packets left out. Each recording has
+/// managed parameters of its own.
+pub fn compare_tm<A: Read, B: Read, S: BuildHasher + Copy>(
+    alloc: Global,
+    hasher: S,
+    one_managed: &Managed,
+    one: &mut Counted<A>,
+    other_managed: &Managed,
+    other: &mut Counted<B>,
+) -> Result<Compared<S>, LinkFault>
+    // Both recordings are read to their ends, and their packets are compared.
+    ensures compared { IfOk result (Compares A.remaining B.remaining one.old one.new other.old
+        other.new (tm_packets one_managed.now) (tm_packets other_managed.now) (tm_counts one_managed.now)
+        (tm_counts other_managed.now) one_managed.now.max_octets other_managed.now.max_octets) }
+    // A fault has its cause at one of the recordings, and the beginning of the other one was read.
+    ensures fault { IfErr result (λ fault. (StopsReading A.remaining one.old one.new
+        one_managed.now.max_octets chunk_size fault
+        × ReadsBeginning B.remaining other.old other.new other_managed.now.max_octets)
+        ⊎ (ReadsBeginning A.remaining one.old one.new one_managed.now.max_octets
+        × StopsReading B.remaining other.old other.new other_managed.now.max_octets chunk_size
+        fault)) }
+    // Memory is refused only where, in one recording, a packet is incomplete before a frame or
+    // after it, or was delivered.
+    ensures memory { IfErr result (λ fault. fault ≡ LinkFault.Memory
+        → MayRefuseMemoryAtSome A.remaining one.old one.new
+        (tm_frames_of one_managed.now.tm_length) (MayRefuseStoreMemoryTm one_managed.now)
+        ⊎ MayRefuseMemoryAtSome B.remaining other.old other.new
+        (tm_frames_of other_managed.now.tm_length) (MayRefuseStoreMemoryTm other_managed.now)) }
+{
+    let framers = (
+        TmFramer::new(&one_managed.tm),
+        TmFramer::new(&other_managed.tm),
+    );
+    compare::<Extractor, TmFramer, A, B, S>(
+        alloc,
+        hasher,
+        framers,
+        one_managed,
+        one,
+        other_managed,
+        other,
+    )
+}
+
+/// Reads two recordings of TC transfer frames to their ends, in turns, and answers which packets
+/// FARM-1 lets through in only one of them on each virtual channel and MAP, idle packets left out.
+/// Each recording has managed parameters of its own.
+pub fn compare_tc<A: Read, B: Read, S: BuildHasher + Copy>(
+    alloc: Global,
+    hasher: S,
+    one_managed: &Managed,
+    one: &mut Counted<A>,
+    other_managed: &Managed,
+    other: &mut Counted<B>,
+) -> Result<Compared<S>, LinkFault>
+    // Both recordings are read to their ends, and their packets are compared.
+    ensures compared { IfOk result (Compares A.remaining B.remaining one.old one.new other.old
+        other.new (tc_packets one_managed.now) (tc_packets other_managed.now) (tc_counts one_managed.now)
+        (tc_counts other_managed.now) one_managed.now.max_octets other_managed.now.max_octets) }
+    // A fault has its cause at one of the recordings, and the beginning of the other one was read.
+    ensures fault { IfErr result (λ fault. (StopsReading A.remaining one.old one.new
+        one_managed.now.max_octets chunk_size fault
+        × ReadsBeginning B.remaining other.old other.new other_managed.now.max_octets)
+        ⊎ (ReadsBeginning A.remaining one.old one.new one_managed.now.max_octets
+        × StopsReading B.remaining other.old other.new other_managed.now.max_octets chunk_size
+        fault)) }
+    // Memory is refused only where, in one recording, a series is incomplete before a frame or
+    // after it, or a packet was delivered.
+    ensures memory { IfErr result (λ fault. fault ≡ LinkFault.Memory
+        → MayRefuseMemoryAtSome A.remaining one.old one.new
+        (tc_frames_of (tc_format one_managed.now)) (MayRefuseStoreMemoryTc one_managed.now)
+        ⊎ MayRefuseMemoryAtSome B.remaining other.old other.new
+        (tc_frames_of (tc_format other_managed.now)) (MayRefuseStoreMemoryTc other_managed.now)) }
+{
+    let framers = (
+        TcFramer::new(&one_managed.tc),
+        TcFramer::new(&other_managed.tc),
+    );
+    compare::<Receiver, TcFramer, A, B, S>(
+        alloc,
+        hasher,
+        framers,
+        one_managed,
+        one,
+        other_managed,
+        other,
+    )
+}
+
+// Reads two recordings to their ends, in turns, and answers which packets only one of them
+// delivers. The recording with fewer packets so far is read next: what waits for a counterpart is
+// then what differs.
+fn compare<D: Deliverer, F: Framer + Drop, A: Read, B: Read, S: BuildHasher + Copy>(
+    alloc: Global,
+    hasher: S,
+    framers: (F, F),
+    one_managed: &Managed,
+    one: &mut Counted<A>,
+    other_managed: &Managed,
+    other: &mut Counted<B>,
+) -> Result<Compared<S>, LinkFault>
+    requires none { F.waits framers.0 one_managed.now [] × F.waits framers.1 other_managed.now [] }
+    requires fits { (p : Parameters) (frame : List ℕ) → F.is_frame p frame → D.is_frame p frame }
+    requires frames { (p : Parameters) → F.frames_of p ≡ (D.kind p).frames_of }
+    requires channels { (D.kind one_managed.now).channels ≡ (D.kind other_managed.now).channels }
+    ensures compared { IfOk result (Compares A.remaining B.remaining one.old one.new other.old
+        other.new (packets_by_channel (D.kind one_managed.now))
+        (packets_by_channel (D.kind other_managed.now))
+        (recording_counts (counts_in (D.kind one_managed.now)) (D.kind one_managed.now).frames_of)
+        (recording_counts (counts_in (D.kind other_managed.now)) (D.kind other_managed.now).frames_of)
+        one_managed.now.max_octets other_managed.now.max_octets) }
+    ensures fault { IfErr result (λ fault. (StopsReading A.remaining one.old one.new
+        one_managed.now.max_octets chunk_size fault
+        × ReadsBeginning B.remaining other.old other.new other_managed.now.max_octets)
+        ⊎ (ReadsBeginning A.remaining one.old one.new one_managed.now.max_octets
+        × StopsReading B.remaining other.old other.new other_managed.now.max_octets chunk_size
+        fault)) }
+    ensures memory { IfErr result (λ fault. fault ≡ LinkFault.Memory
+        → MayRefuseMemoryAtSome A.remaining one.old one.new (D.kind one_managed.now).frames_of
+        (MayRefuseStoreMemory (D.kind one_managed.now) (D.is_incomplete_at_last one_managed.now))
+        ⊎ MayRefuseMemoryAtSome B.remaining other.old other.new (D.kind other_managed.now).frames_of
+        (MayRefuseStoreMemory (D.kind other_managed.now) (D.is_incomplete_at_last other_managed.now))) }
+{
+    let mut buffer = [0; CHUNK_SIZE];
+    let mut first = Recording::<D, F>::begin(alloc, one_managed, framers.0);
+    let mut second = Recording::<D, F>::begin(alloc, other_managed, framers.1);
+    let mut pairing = Pairing::new(alloc, hasher);
+    while let Some(station) = next_turn(&first, &second) {
+        match station {
+            Station::First => read_turn(
+                one_managed,
+                Station::First,
+                &mut first,
+                one,
+                &mut pairing,
+                &mut buffer,
+            )?,
+            Station::Second => read_turn(
+                other_managed,
+                Station::Second,
+                &mut second,
+                other,
+                &mut pairing,
+                &mut buffer,
+            )?,
+        }
+    }
+    Ok(Compared {
+        answer: pairing.answer(),
+        first: first.totals(),
+        second: second.totals(),
+        left: pairing,
+    })
+}
+
+// Whose recording is read next, unless both were read to their ends: the one with fewer packets so
+// far.
+fn next_turn<D: Deliverer, F: Framer + Drop>(
+    first: &Recording<D, F>,
+    second: &Recording<D, F>,
+) -> Option<Station>
+    ensures first { IfSome result (λ station. station ≡ Station.First
+        → first.now.is_read ≡ false) }
+    ensures second { IfSome result (λ station. station ≡ Station.Second
+        → second.now.is_read ≡ false) }
+    ensures none { IfNone result ((first.now.is_read ≡ true) × (second.now.is_read ≡ true)) }
+{
+    let is_first_behind = first.counting.so_far.packets() <= second.counting.so_far.packets();
+    match (first.is_read, second.is_read) {
+        (true, true) => None,
+        (false, true) => Some(Station::First),
+        (true, false) => Some(Station::Second),
+        (false, false) if is_first_behind => Some(Station::First),
+        (false, false) => Some(Station::Second),
+    }
+}

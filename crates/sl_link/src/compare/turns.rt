@@ -1,0 +1,204 @@
+//! Two recordings that are read in turns, a chunk at a time.
+ghost use Rattle.std.specs.Prelude.{◌≡◌, ◌≢◌, ◌⊎◌, ◌+◌, ◌^◌, ◌<◌, ◌≤◌, ◌-◌, ◌++◌, ◌∷◌, [], ℕ, List, false, true, OnOk, IfErr, length};
+ghost use Rattle.std.specs.List.{concat};
+ghost use Rattle.sl_packet.specs.Packets.{without_idle};
+ghost use Rattle.sl_packet.specs.Sink.{TakesAll};
+ghost use Rattle.sl_packet.specs.Stopping.{IsStopped};
+ghost use Rattle.sl_pair.specs.Pairing.{ByChannel, StandsAfter, in_order};
+ghost use Rattle.sl_link.specs.Compare.Turns.{IsReadSoFar, packets_on};
+ghost use Rattle.sl_link.specs.Io.Streams.{IsRead, StopsReading};
+ghost use Rattle.sl_link.specs.Kind.Delivery.{HasDelivered, MayRefuseStoreMemory};
+ghost use Rattle.sl_link.specs.Tally.{counts_with_remainder, no_counts};
+ghost use Rattle.sl_link.specs.Framing.{MayRefuseMemoryAtSome};
+
+use crate::framing::{FrameSink, Framer, read_chunk};
+use crate::kind::Deliverer;
+use crate::link::managed::Managed;
+use crate::link::totals::Totals;
+use sl_io::{Counted, LinkFault};
+use sl_packet::{FlowFault, PacketSink};
+use sl_pair::{Pairing, Station};
+use std::alloc::Global;
+use std::hash::BuildHasher;
+use std::io::Read;
+
+/// What the frames of a recording delivered so far, counted.
+#[derive(Drop)]
+pub struct Counting<D: Deliverer> {
+    pub delivery: D,
+    pub so_far: Totals,
+}
+
+impl<D: Deliverer> Counting<D> {
+    // Hands a sink the packets that end in the next frame, and counts them.
+    fn deliver<P: PacketSink>(
+        &mut self,
+        managed: &Managed,
+        frame: &[u8],
+        sink: &mut P,
+    ) -> Result<(), FlowFault>
+        requires { (before : List (List ℕ)) × HasDelivered (D.kind managed.now)
+            (D.has_processed self.old.delivery managed.now) before 0 self.old.so_far
+            × D.is_frame managed.now frame.now
+            × (length (concat before) + length frame.now < 2 ^ 64) }
+        ensures delivered { OnOk result ((before : List (List ℕ))
+            → HasDelivered (D.kind managed.now) (D.has_processed self.old.delivery managed.now)
+            before 0 self.old.so_far
+            → HasDelivered (D.kind managed.now) (D.has_processed self.new.delivery managed.now)
+            (before ++ frame.now ∷ []) 0 self.new.so_far
+            × TakesAll P.taking sink.old ((D.kind managed.now).channel frame.now)
+            (without_idle ((D.kind managed.now).ended before frame.now)) sink.new) }
+        ensures fault { IfErr result (λ fault. (before : List (List ℕ))
+            → D.has_processed self.old.delivery managed.now before
+            → IsStopped P.taking P.failing P.failures sink.old
+            ((D.kind managed.now).channel frame.now)
+            (without_idle ((D.kind managed.now).ended before frame.now)) fault sink.new
+            × (fault ≡ FlowFault.Memory
+            → D.is_incomplete_at_last managed.now (before ++ frame.now ∷ []))) }
+    {
+        let (report, _) = self.delivery.deliver(managed, frame, sink)?;
+        self.so_far.add(frame.len() as u64, report);
+        Ok(())
+    }
+}
+
+// Pairs the packets that the frames of a recording deliver.
+#[derive(Drop)]
+struct Turn<'a, 'b, D: Deliverer, S: BuildHasher + Copy> {
+    counting: &'a mut Counting<D>,
+    pairing: &'b mut Pairing<S>,
+}
+
+impl<'a, 'b, D: Deliverer, S: BuildHasher + Copy> FrameSink for Turn<'a, 'b, D, S> {
+    ghost use Rattle.std.specs.Prelude.{◌≡◌};
+    ghost use Rattle.sl_link.specs.Compare.Turns.{GoesOn};
+    ghost use Rattle.sl_link.specs.Kind.Delivery.{MayRefuseStoreMemory};
+    ghost use Rattle.sl_link.specs.Normalise.Form.{IsMemoryRefused};
+
+    ghost is_frame = { D.is_frame };
+
+    // The store is the one that was lent, and after these frames both are as `GoesOn` has it. Those
+    // that the recording had before this turn are the first of them.
+    ghost took = { λ p start now frames. (now.counting.ghost_name ≡ start.counting.ghost_name)
+        × (now.pairing.ghost_name ≡ start.pairing.ghost_name)
+        × GoesOn (D.kind p) (D.has_processed now.counting.now.delivery p)
+        start.counting.now.so_far.frames start.pairing.now now.pairing.now
+        now.counting.now.so_far frames };
+
+    ghost stopped = { λ p start now frames fault.
+        (now.counting.ghost_name ≡ start.counting.ghost_name)
+        × IsMemoryRefused (MayRefuseStoreMemory (D.kind p) (D.is_incomplete_at_last p) frames)
+        fault };
+
+    fn frame(&mut self, managed: &Managed, frame: &[u8]) -> Result<(), LinkFault> {
+        self.counting.deliver(managed, frame, self.pairing)?;
+        Ok(())
+    }
+
+    fn pause(&mut self) -> Result<(), LinkFault> {
+        Ok(())
+    }
+}
+
+/// One of two recordings, as far as it was read.
+#[derive(Drop)]
+pub struct Recording<D: Deliverer, F: Framer + Drop> {
+    pub framer: F,
+    pub counting: Counting<D>,
+    pub octets: u64,
+    pub is_read: bool,
+}
+
+impl<D: Deliverer, F: Framer + Drop> Recording<D, F> {
+    /// Nothing was read.
+    pub fn begin(alloc: Global, managed: &Managed, framer: F) -> Recording<D, F>
+        ensures framer { result.framer ≡ framer }
+        ensures begun { D.has_processed result.counting.delivery managed.now [] }
+        ensures none { result.counting.so_far ≡ no_counts }
+        ensures octets { result.octets ≡ 0 }
+        ensures not_read { result.is_read ≡ false }
+    {
+        Recording {
+            framer,
+            counting: Counting {
+                delivery: D::begin(alloc, managed),
+                so_far: Totals::none(),
+            },
+            octets: 0,
+            is_read: false,
+        }
+    }
+
+    /// The totals, where all was read.
+    pub fn totals(&self) -> Totals
+        requires inside { self.now.counting.so_far.octets ≤ self.now.octets }
+        requires no_anomalies { self.now.counting.so_far.anomalies ≡ 0 }
+        ensures { result ≡ counts_with_remainder self.now.counting.so_far
+            (self.now.octets - self.now.counting.so_far.octets) 0 }
+    {
+        let so_far = self.counting.so_far;
+        so_far.with_remainder(self.octets - so_far.octets(), 0)
+    }
+}
+
+/// Reads the next chunk of a station's recording, and pairs the packets that its frames deliver.
+pub fn read_turn<D: Deliverer, F: Framer + Drop, R: Read, S: BuildHasher + Copy>(
+    managed: &Managed,
+    station: Station,
+    recording: &mut Recording<D, F>,
+    reader: &mut Counted<R>,
+    pairing: &mut Pairing<S>,
+    buffer: &mut [u8],
+) -> Result<(), LinkFault>
+    requires room { 0 < length buffer.old }
+    requires fits { (frame : List ℕ) → F.is_frame managed.now frame → D.is_frame managed.now frame }
+    requires frames { F.frames_of managed.now ≡ (D.kind managed.now).frames_of }
+    requires ready { (begun : Counted R) × (so_far : List ℕ)
+        × IsReadSoFar R.remaining F.is_frame F.waits F.frames_of D.kind D.has_processed managed.now
+        begun reader.old recording.old.framer recording.old.counting.delivery
+        recording.old.counting.so_far recording.old.octets so_far }
+    ensures paired { OnOk result ((begun : Counted R) (so_far : List ℕ)
+        → IsReadSoFar R.remaining F.is_frame F.waits F.frames_of D.kind D.has_processed managed.now
+        begun reader.old recording.old.framer recording.old.counting.delivery
+        recording.old.counting.so_far recording.old.octets so_far
+        → (chunk : List ℕ)
+        × IsReadSoFar R.remaining F.is_frame F.waits F.frames_of D.kind D.has_processed managed.now
+        begun reader.new recording.new.framer recording.new.counting.delivery
+        recording.new.counting.so_far recording.new.octets
+        (so_far ++ chunk)
+        × ((others : ByChannel)
+        → in_order station (StandsAfter pairing.old)
+        (packets_on (D.kind managed.now) ((D.kind managed.now).frames_of so_far)) others
+        → in_order station (StandsAfter pairing.new)
+        (packets_on (D.kind managed.now) ((D.kind managed.now).frames_of (so_far ++ chunk)))
+        others)) }
+    ensures end { OnOk result (recording.new.is_read ≡ true → IsRead R.remaining reader.new) }
+    ensures nearer { OnOk result ((recording.new.is_read ≡ true)
+        ⊎ (recording.old.octets < recording.new.octets)) }
+    ensures fault { IfErr result (λ fault. (begun : Counted R) (so_far : List ℕ)
+        → IsReadSoFar R.remaining F.is_frame F.waits F.frames_of D.kind D.has_processed managed.now
+        begun reader.old recording.old.framer recording.old.counting.delivery
+        recording.old.counting.so_far recording.old.octets so_far
+        → StopsReading R.remaining begun reader.new managed.now.max_octets (length buffer.old) fault
+        × (fault ≡ LinkFault.Memory → MayRefuseMemoryAtSome R.remaining begun reader.new
+        (D.kind managed.now).frames_of (MayRefuseStoreMemory (D.kind managed.now)
+        (D.is_incomplete_at_last managed.now)))) }
+{
+    pairing.take_turn(station);
+    let mut turn = Turn {
+        counting: &mut recording.counting,
+        pairing,
+    };
+    let octets = recording.octets;
+    let taken = read_chunk(
+        managed,
+        &mut recording.framer,
+        &mut turn,
+        reader,
+        buffer,
+        octets,
+    )?;
+    recording.octets = octets + taken as u64;
+    recording.is_read = taken == 0;
+    Ok(())
+}

@@ -1,0 +1,180 @@
+//! Two recordings compared: the answer, what is left of each, and faults.
+use super::support::recordings::{
+    AROUND_IDLE, DAMAGED, DIVIDED, FIRST, SECOND, TEN_FILLED, THROUGH, WHOLE, WHOLE_BD,
+    WITH_FECF, WITH_GAP, octets,
+};
+use super::support::rows::{Stop, holds};
+use super::support::streams::{FailsAfter, InPieces, Unreadable};
+use sl_link::{Compared, Counted, LinkFault, Managed, compare_tc, compare_tm};
+use sl_pair::{Answer, Station};
+use std::alloc::{AllocError, Global};
+use std::hash::{BuildHasherDefault, FoldHasher};
+use std::io::Read;
+
+type Hasher = BuildHasherDefault<FoldHasher>;
+
+// The answer, how many packets are left of each recording, and how many each delivers.
+type Outcome = (Answer, (usize, usize), (u64, u64));
+
+fn link(limit: u64) -> Result<Managed, Stop> {
+    Managed::new(1, 32, false, 16, false, 10, 0, limit).map_err(|_| Stop::Absent)
+}
+
+// How many packets are left of a station's recording, on the channels that the recordings have.
+fn number_left(compared: &Compared<Hasher>, station: Station) -> Result<usize, AllocError> {
+    let mut number: usize = 0;
+    for channel in 0..=320 {
+        let more = compared.left.left(station, channel)?.len();
+        number = number.saturating_add(more);
+    }
+    Ok(number)
+}
+
+fn outcome(compared: &Compared<Hasher>) -> Result<Outcome, Stop> {
+    let first = number_left(compared, Station::First)?;
+    let second = number_left(compared, Station::Second)?;
+    let packets = (compared.first.packets(), compared.second.packets());
+    Ok((compared.answer, (first, second), packets))
+}
+
+fn outcome_tm<A: Read + Drop, B: Read + Drop>(
+    alloc: Global,
+    managed: (&Managed, &Managed),
+    one: A,
+    other: B,
+) -> Result<Outcome, Stop> {
+    let mut one = Counted::new(one);
+    let mut other = Counted::new(other);
+    let hasher: Hasher = BuildHasherDefault::new();
+    let compared = compare_tm(alloc, hasher, managed.0, &mut one, managed.1, &mut other)?;
+    outcome(&compared)
+}
+
+fn outcome_tc<A: Read + Drop, B: Read + Drop>(
+    alloc: Global,
+    managed: (&Managed, &Managed),
+    one: A,
+    other: B,
+) -> Result<Outcome, Stop> {
+    let mut one = Counted::new(one);
+    let mut other = Counted::new(other);
+    let hasher: Hasher = BuildHasherDefault::new();
+    let compared = compare_tc(alloc, hasher, managed.0, &mut one, managed.1, &mut other)?;
+    outcome(&compared)
+}
+
+// A packet that ends with its data field, after one of ten octets, and before it.
+const FULL: &str = "0002c00600132222222222222222222222222222222222222222";
+
+const TEN_FULL: [&str; 4] = [FIRST, TEN_FILLED, FIRST, FULL];
+
+const FULL_TEN: [&str; 4] = [FIRST, FULL, FIRST, TEN_FILLED];
+
+// Two recordings, and what is found of them.
+type Case<'a> = (&'a [&'a str], &'a [&'a str], Outcome);
+
+const TM_CASES: [Case; 7] = [
+    (&[], &[], (Answer::Same, (0, 0), (0, 0))),
+    (&[], &[FIRST, TEN_FILLED], (Answer::Different, (0, 1), (0, 1))),
+    (
+        &[FIRST, TEN_FILLED],
+        &["0010aabb1800", TEN_FILLED],
+        (Answer::Same, (0, 0), (1, 1)),
+    ),
+    (
+        &[FIRST, TEN_FILLED],
+        &[FIRST, DAMAGED],
+        (Answer::Different, (1, 1), (1, 1)),
+    ),
+    (&THROUGH, &AROUND_IDLE, (Answer::Same, (0, 0), (3, 3))),
+    (&THROUGH, &WITH_GAP, (Answer::Different, (1, 0), (3, 2))),
+    (&TEN_FULL, &FULL_TEN, (Answer::Reordered, (0, 0), (2, 2))),
+];
+
+const TC_CASES: [Case; 4] = [
+    (&[], &[], (Answer::Same, (0, 0), (0, 0))),
+    (&[WHOLE], &[WHOLE_BD], (Answer::Same, (0, 0), (1, 1))),
+    (&[WHOLE, SECOND], &[WHOLE], (Answer::Different, (1, 0), (2, 1))),
+    (&[WHOLE], &DIVIDED, (Answer::Different, (1, 1), (1, 1))),
+];
+
+// What is found with the recordings exchanged.
+fn turned(outcome: &Outcome) -> Outcome {
+    let (answer, left, packets) = outcome;
+    (*answer, (left.1, left.0), (packets.1, packets.0))
+}
+
+#[test]
+fn what_only_one_delivers_is_left(rt: HostRuntime) -> Result<(), Stop> {
+    let alloc = rt.alloc();
+    let managed = link(1000)?;
+    let links = (&managed, &managed);
+    for (one, other, wanted) in &TM_CASES {
+        let one = octets(alloc, one)?;
+        let other = octets(alloc, other)?;
+        let (one, other) = (one.as_slice(), other.as_slice());
+        let found = outcome_tm(alloc, links, one, other)?;
+        holds(&rt, wanted, found == *wanted);
+        let found = outcome_tm(alloc, links, InPieces(other, 1), one)?;
+        holds(&rt, wanted, found == turned(wanted));
+    }
+    for (one, other, wanted) in &TC_CASES {
+        let one = octets(alloc, one)?;
+        let other = octets(alloc, other)?;
+        let (one, other) = (one.as_slice(), other.as_slice());
+        let found = outcome_tc(alloc, links, one, other)?;
+        holds(&rt, wanted, found == *wanted);
+        let found = outcome_tc(alloc, links, InPieces(other, 1), one)?;
+        holds(&rt, wanted, found == turned(wanted));
+    }
+    Ok(())
+}
+
+// Each recording is read with its own parameters.
+#[test]
+fn the_links_may_differ(rt: HostRuntime) -> Result<(), Stop> {
+    let alloc = rt.alloc();
+    let bare = link(32)?;
+    let checked = Managed::new(1, 34, true, 16, false, 10, 0, 68).map_err(|_| Stop::Absent)?;
+    let one = octets(alloc, &[FIRST, TEN_FILLED])?;
+    let other = octets(alloc, &WITH_FECF)?;
+    let links = (&bare, &checked);
+    let found = outcome_tm(alloc, links, one.as_slice(), other.as_slice())?;
+    holds(&rt, &"links", found == (Answer::Same, (0, 0), (1, 1)));
+    Ok(())
+}
+
+// Whether a comparison stops with this fault.
+fn stops<A: Read + Drop, B: Read + Drop>(
+    alloc: Global,
+    limit: u64,
+    streams: (A, B),
+    wanted: (LinkFault, (u64, u64)),
+) -> Result<bool, Stop> {
+    let managed = link(limit)?;
+    let mut one = Counted::new(streams.0);
+    let mut other = Counted::new(streams.1);
+    let hasher: Hasher = BuildHasherDefault::new();
+    let fault = compare_tm(alloc, hasher, &managed, &mut one, &managed, &mut other).err();
+    Ok((fault, (one.faults(), other.faults())) == (Some(wanted.0), wanted.1))
+}
+
+#[test]
+fn either_recording_may_stop_it(rt: HostRuntime) -> Result<(), Stop> {
+    let alloc = rt.alloc();
+    let recording = octets(alloc, &[FIRST, TEN_FILLED])?;
+    let whole = recording.as_slice();
+    let first = stops(alloc, 32, (Unreadable, whole), (LinkFault::Read, (1, 0)))?;
+    holds(&rt, &"first", first);
+    let fails = FailsAfter {
+        inner: whole,
+        allowed: 1,
+    };
+    let second = stops(alloc, 32, (whole, fails), (LinkFault::Read, (0, 1)))?;
+    holds(&rt, &"second", second);
+    let long = stops(alloc, 31, (whole, "".as_bytes()), (LinkFault::TooLong, (0, 0)))?;
+    holds(&rt, &"long", long);
+    let other_long = stops(alloc, 31, ("".as_bytes(), whole), (LinkFault::TooLong, (0, 0)))?;
+    holds(&rt, &"other long", other_long);
+    Ok(())
+}

@@ -28,6 +28,8 @@ mod PairFacts
 pub mod PlacedLemmas
 -- lists whose elements have numbers that rise
 pub mod RisingLemmas
+-- packets in the order of their APIDs, and their runs
+pub mod RunsLemmas
 -- recordings with the same packets, in some order or in the same one
 pub mod ReorderedLemmas
 -- recordings with as many copies of each packet

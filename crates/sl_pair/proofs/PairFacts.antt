@@ -1,7 +1,8 @@
 -- Worked examples. The packets are short texts: no definition here asks for whole packets.
-use Rattle.std.proofs.Common.{◌≡◌, List, ℕ, [], ◌∷◌, refl}
+use Rattle.std.proofs.Common.{◌≡◌, ◌+◌, List, ℕ, [], ◌∷◌, refl}
 use Rattle.sl_pair.specs.OnlyIn.{in_both, only_in, only_places}
-use Rattle.sl_pair.specs.Placed.{left_in}
+use Rattle.sl_pair.specs.Placed.{Placed, left_in}
+use Rattle.sl_pair.specs.Runs.{by_apid, count_of, first_run, runs_of}
 use Rattle.sl_pair.specs.Turns.{FromFirst, FromSecond, after, nothing_read}
 
 -- packets of APID 1, of APID 1 with another content, and of APID 2
@@ -13,6 +14,11 @@ b = 0 ∷ 1 ∷ 8 ∷ []
 
 abbrev c : List ℕ
 c = 0 ∷ 2 ∷ 7 ∷ []
+
+-- packets of six octets with an APID, a sequence count and their number among those of the APID
+abbrev placed_packet : ℕ → ℕ → ℕ → ℕ → Placed
+placed_packet apid high low number =
+    record { packet = 0 ∷ apid ∷ high ∷ low ∷ 0 ∷ 0 ∷ []; number = number + apid; apid_number = number }
 
 record Facts : Type 0 where
   -- the first recording has one copy of `a` more, and it is the last one
@@ -37,6 +43,18 @@ record Facts : Type 0 where
         second_left = [];
         pairs = (0, 1) ∷ (2, 0) ∷ [];
       }
+  -- the sequence count, without the flags before it
+  count : count_of (0 ∷ 1 ∷ 0xC1 ∷ 2 ∷ 0 ∷ 0 ∷ []) ≡ 258
+  -- by APID; those of one APID as they stood
+  order : by_apid (placed_packet 9 0 0 0 ∷ placed_packet 1 0 5 0 ∷ placed_packet 9 0 1 1 ∷ placed_packet 1 0 3 1 ∷ [])
+      ≡ placed_packet 1 0 5 0 ∷ placed_packet 1 0 3 1 ∷ placed_packet 9 0 0 0 ∷ placed_packet 9 0 1 1 ∷ []
+  -- a run goes on after 16383 with 0, and ends at a gap in the counts,
+  round : runs_of (placed_packet 1 0xFF 0xFF 0 ∷ placed_packet 1 0xC0 0 1 ∷ placed_packet 1 0xC0 2 2 ∷ [])
+      ≡ (placed_packet 1 0xFF 0xFF 0 ∷ placed_packet 1 0xC0 0 1 ∷ []) ∷ (placed_packet 1 0xC0 2 2 ∷ []) ∷ []
+  -- at another APID, and where a packet stands between that both recordings have
+  apart : runs_of (placed_packet 1 0 0 0 ∷ placed_packet 2 0 1 1 ∷ placed_packet 2 0 2 3 ∷ [])
+      ≡ (placed_packet 1 0 0 0 ∷ []) ∷ (placed_packet 2 0 1 1 ∷ []) ∷ (placed_packet 2 0 2 3 ∷ []) ∷ []
+  first : first_run (placed_packet 1 0 0 0 ∷ placed_packet 1 0 1 1 ∷ placed_packet 1 0 3 2 ∷ []) ≡ 2
 
 facts : Facts
 facts =
@@ -49,4 +67,9 @@ facts =
       nothing = refl;
       numbers = refl;
       turns = refl;
+      count = refl;
+      order = refl;
+      round = refl;
+      apart = refl;
+      first = refl;
     }

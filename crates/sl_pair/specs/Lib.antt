@@ -8,6 +8,8 @@ pub mod Pairing
 pub mod Placed
 -- the queues of the store
 pub mod Queue
+-- what only one recording has, APID by APID, in runs
+pub mod Runs
 -- what a store keeps of one recording on one channel
 pub mod Side
 -- the places at which packets wait in the store

@@ -1,5 +1,6 @@
 //! Two recordings on one channel.
 ghost use Rattle.std.specs.Prelude.{◌≡◌, ◌↔◌, ◌≤◌, ◌++◌, ◌∷◌, [], IfOk, IsTrue, OnOk, length};
+ghost use Rattle.sl_packet.specs.Packet.{IsPacket};
 ghost use Rattle.sl_pair.specs.OnlyIn.{Packets, only_in};
 ghost use Rattle.sl_pair.specs.Placed.{AreInPlace, left_in};
 ghost use Rattle.sl_pair.specs.Pairing.{IsChannel, in_order};
@@ -41,7 +42,7 @@ impl<S: BuildHasher + Copy> Channel<S> {
 
     /// Takes the next packet of a station's recording.
     pub fn pair(&mut self, alloc: Global, station: Station, packet: &[u8]) -> Result<(), AllocError>
-        requires { 2 ≤ length packet.now }
+        requires { IsPacket packet.now }
         ensures { OnOk result ((own others : Packets)
             → in_order station (IsChannel self.old) own others
             → in_order station (IsChannel self.new) (own ++ packet.now ∷ []) others) }

@@ -3,12 +3,16 @@ ghost use Rattle.std.specs.Prelude.{◌≡◌, ◌++◌, ℕ, List, OnOk, bytes_
 ghost use Rattle.std.specs.HashMap.{get_by};
 ghost use Rattle.std.specs.List.{filter};
 ghost use Rattle.std.specs.Option.{option_to_list};
+ghost use Rattle.sl_packet.specs.Packet.{IsPacket, apid_of};
 ghost use Rattle.sl_pair.specs.Left.{placed_at};
 ghost use Rattle.sl_pair.specs.Queue.{queued};
+ghost use Rattle.sl_pair.specs.Runs.{count_of};
 ghost use Rattle.sl_pair.specs.Waiting.{same_packet};
 
+use crate::numbering::apid;
 use crate::octets::Octets;
 use crate::waiting::Place;
+use sl_fields::{PacketHeader, front};
 use std::alloc::AllocError;
 use std::collections::{HashMap, VecDeque};
 use std::hash::BuildHasher;
@@ -33,9 +37,25 @@ impl<'a> Model for Left<'a> {
 impl<'a> Left<'a> {
     /// The packet's octets, from its header on.
     pub fn packet(&self) -> &'a [u8]
-        ensures { result.now ≡ self.now.packet }
+        ensures octets { result.now ≡ self.now.packet }
+        ensures packet { IsPacket result.now }
     {
         self.octets.as_slice()
+    }
+
+    /// The packet's APID.
+    pub fn apid(&self) -> u16
+        ensures { result ≡ apid_of self.now.packet }
+    {
+        apid(self.packet())
+    }
+
+    /// The packet's sequence count, 0 to 16383.
+    pub fn count(&self) -> u16
+        ensures { result ≡ count_of self.now.packet }
+    {
+        let (header, _) = front::<6>(self.packet());
+        PacketHeader::read(header).count()
     }
 
     /// The packet's number among those of its channel, from 0 on.

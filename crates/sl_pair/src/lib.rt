@@ -11,9 +11,11 @@ mod left;
 mod numbering;
 mod octets;
 mod pairing;
+mod runs;
 mod side;
 mod waiting;
 
 pub use channel::Station;
 pub use left::Left;
 pub use pairing::{Answer, Pairing};
+pub use runs::first_run;

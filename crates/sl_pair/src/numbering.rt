@@ -49,8 +49,8 @@ impl Numbering {
     }
 }
 
-// The APID of a packet: the last eleven bits of its first two octets.
-fn apid(packet: &[u8]) -> u16
+/// The APID of a packet: the last eleven bits of its first two octets.
+pub fn apid(packet: &[u8]) -> u16
     requires { 2 ≤ length packet.now }
     ensures { result ≡ apid_of packet.now }
 {

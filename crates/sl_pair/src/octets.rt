@@ -4,6 +4,7 @@ ghost use Rattle.std.specs.Cmp.{partial_equiv_from_equiv};
 ghost use Rattle.std.specs.Cmp.Lexicographic.{nat_list_eq_equiv};
 ghost use Rattle.std.specs.Cmp.Rules.{hashing};
 ghost use Rattle.std.proofs.Common.{rules};
+ghost use Rattle.sl_packet.specs.Packet.{IsPacket};
 
 use smallvec::SmallVec;
 use std::alloc::{AllocError, Global};
@@ -22,14 +23,18 @@ pub struct Octets {
 
 impl Model for Octets {
     ghost use Rattle.std.specs.Prelude.{ℕ, List};
+    ghost use Rattle.sl_packet.specs.Packet.{IsPacket};
 
     ghost Value = { List ℕ };
 
     ghost view = { λ o. o.octets.items };
+
+    ghost invariant = { λ o. IsPacket o.octets.items };
 }
 
 impl Octets {
     pub fn new(alloc: Global, packet: &[u8]) -> Result<Octets, AllocError>
+        requires { IsPacket packet.now }
         ensures { IfOk result (λ octets. octets ≡ packet.now) }
     {
         let octets = SmallVec::from_slice(alloc, packet)?;
@@ -37,7 +42,8 @@ impl Octets {
     }
 
     pub fn as_slice(&self) -> &[u8]
-        ensures { result.now ≡ self.now }
+        ensures octets { result.now ≡ self.now }
+        ensures packet { IsPacket result.now }
     {
         self.octets.as_slice()
     }

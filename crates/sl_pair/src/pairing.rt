@@ -1,10 +1,12 @@
 //! Two recordings, whose packets come in turns.
 ghost use Rattle.std.specs.Prelude.{◌≡◌, ◌↔◌, ◌<◌, ◌≤◌, ℕ, IfOk, IsTrue, OnOk, length};
 ghost use Rattle.std.specs.Vec.{vec_len};
+ghost use Rattle.sl_packet.specs.Packet.{IsPacket};
 ghost use Rattle.sl_pair.specs.Pairing.{AreChannels, ByChannel, HaveSame, NothingIsLeft};
 ghost use Rattle.sl_pair.specs.Pairing.{StandsAfter, failures_of, in_order, no_packets};
 ghost use Rattle.sl_pair.specs.Pairing.{turn_of, with_packet};
 ghost use Rattle.sl_pair.specs.Placed.{AreInPlace, left_in};
+ghost use Rattle.sl_pair.specs.Runs.{by_apid};
 
 use crate::channel::{Channel, Station};
 use crate::left::Left;
@@ -112,6 +114,22 @@ impl<S: BuildHasher + Copy> Pairing<S> {
             None => Ok(Vec::new(self.alloc)),
         }
     }
+
+    /// The same packets in the order of their APIDs. Those of one APID stand in the recording's
+    /// order.
+    pub fn left_by_apid(
+        &self,
+        station: Station,
+        channel: u16,
+    ) -> Result<Vec<Left<'_>>, AllocError>
+        ensures { IfOk result (λ left. (own others : ByChannel)
+            → in_order station (StandsAfter self.now) own others
+            → left.items ≡ by_apid (left_in (own channel) (others channel))) }
+    {
+        let mut left = self.left(station, channel)?;
+        left.sort_by_key(|one| one.apid())?;
+        Ok(left)
+    }
 }
 
 // Whether each packet has a counterpart, on all channels.
@@ -176,7 +194,7 @@ fn pair_on<S: BuildHasher + Copy>(
     station: Station,
     packet: &[u8],
 ) -> Result<(), AllocError>
-    requires { 2 ≤ length packet.now }
+    requires { IsPacket packet.now }
     ensures { OnOk result ((own others : ByChannel)
         → in_order station (AreChannels channels.old.items) own others
         → in_order station (AreChannels channels.new.items)

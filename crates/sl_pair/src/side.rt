@@ -1,5 +1,6 @@
 //! One recording on one channel.
-ghost use Rattle.std.specs.Prelude.{◌≡◌, ◌≤◌, ◌↔◌, ◌++◌, ◌∷◌, [], IfOk, IsTrue, length};
+ghost use Rattle.std.specs.Prelude.{◌≡◌, ◌↔◌, ◌++◌, ◌∷◌, [], IfOk, IsTrue};
+ghost use Rattle.sl_packet.specs.Packet.{IsPacket};
 ghost use Rattle.sl_pair.specs.OnlyIn.{Packets, only_in};
 ghost use Rattle.sl_pair.specs.Placed.{AreInPlace, left_in};
 ghost use Rattle.sl_pair.specs.Side.{IsSide};
@@ -39,7 +40,7 @@ impl<S: BuildHasher + Copy> Side<S> {
         other: &mut Side<S>,
         packet: &[u8],
     ) -> Result<bool, AllocError>
-        requires { 2 ≤ length packet.now }
+        requires { IsPacket packet.now }
         ensures { IfOk result (λ in_place. (before others : Packets)
             → IsSide self.old before others → IsSide other.old others before
             → IsSide self.new (before ++ packet.now ∷ []) others

@@ -2,6 +2,7 @@
 ghost use Rattle.std.specs.Prelude.{◌≡◌, ◌↔◌, ◌++◌, ◌∷◌, [], ℕ, List, None, IfOk, OnOk, IsTrue, bytes_eq, drop, false, if◌then◌else◌, map};
 ghost use Rattle.std.specs.HashMap.{get_by};
 ghost use Rattle.std.specs.List.{filter, slice_get};
+ghost use Rattle.sl_packet.specs.Packet.{IsPacket};
 ghost use Rattle.sl_pair.specs.Left.{placed_at};
 ghost use Rattle.sl_pair.specs.Queue.{queued};
 ghost use Rattle.sl_pair.specs.Waiting.{same_packet};
@@ -62,7 +63,8 @@ impl<S: BuildHasher + Copy> Waiting<S> {
         packet: &[u8],
         place: Place,
     ) -> Result<(), AllocError>
-        requires { octets ≡ packet.now }
+        requires same { octets ≡ packet.now }
+        requires packet { IsPacket packet.now }
         ensures { OnOk result ((q : List ℕ) → waiting_at self.new q
             ≡ waiting_at self.old q ++ (if bytes_eq q packet.now then place ∷ [] else [])) }
     {
@@ -109,6 +111,7 @@ fn push_place<S: BuildHasher>(
     packet: &[u8],
     place: Place,
 ) -> Result<(), AllocError>
+    requires { IsPacket packet.now }
     ensures pushed { OnOk result ((q : List ℕ) → queued queues.new q
         ≡ queued queues.old q ++ (if bytes_eq q packet.now then place ∷ [] else [])) }
     ensures others_stay { (q : List ℕ) → bytes_eq q packet.now ≡ false

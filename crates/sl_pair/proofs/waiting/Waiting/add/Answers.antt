@@ -11,7 +11,7 @@ returns-in_default g c = λ q.
     let p = c.args.packet.now in
     let m = c.args.self.now.newest in
     let e = queued c.args.self.now.earlier q in
-    let same = c.requires in
+    let same = c.requires.same in
     let updates = subst (λ k. UpdatesBy bytes_eq (bytes_eq k) m c.insert.new.self (Some c.args.place)) same c.in_ok-before.ensures.updates in
     let was = sym c.in_default.is ∙ c.in_ok-before.ensures.old ∙ ap (λ k. get_by (bytes_eq k) m) same in
     waiting-added p m c.insert.new.self c.args.place None updates was q e e
@@ -23,7 +23,7 @@ returns g c =
     let p = c.args.packet.now in
     let m = c.args.self.now.newest in
     let e = queued c.args.self.now.earlier q in
-    let same = c.requires in
+    let same = c.requires.same in
     let updates = subst (λ k. UpdatesBy bytes_eq (bytes_eq k) m c.insert.new.self (Some c.args.place)) same c.in_ok-before.ensures.updates in
     let was = sym c.in-Some.is ∙ c.in_ok-before.ensures.old ∙ ap (λ k. get_by (bytes_eq k) m) same in
     waiting-added p m c.insert.new.self c.args.place (Some c.in-Some.before) updates was q e (queued c.push_place.new.queues q)
@@ -45,5 +45,5 @@ invariant_of-self-2 g c =
           none_queued-added c.args.octets c.args.self.now.newest c.insert.new.self
           (queued c.args.self.now.earlier) (queued c.push_place.new.queues) c.args.self.now.earlier_have_newest
           c.args.place c.in_ok-before.ensures.updates
-          (λ q other. c.push_place.ensures.others_stay q (ap (bytes_eq q) (sym c.requires) ∙ other));
+          (λ q other. c.push_place.ensures.others_stay q (ap (bytes_eq q) (sym c.requires.same) ∙ other));
     }

@@ -1,0 +1,51 @@
+-- What only one recording has, APID by APID, and in runs.
+use Rattle.std.specs.Prelude.{ℕ, ◌+◌, ◌%◌, ◌==◌, ◌&&◌, Bool, nat_le, cond, List, [], ◌∷◌, take}
+use Rattle.sl_fields.specs.PacketHeader.{packet_header}
+use Rattle.sl_packet.specs.Packet.{apid_of}
+use Rattle.sl_pair.specs.Placed.{Placed}
+
+-- the sequence count of a packet
+abbrev pub count_of : List ℕ → ℕ
+count_of packet = (packet_header (take 6 packet)).count
+
+-- ---- in the order of their APIDs
+
+-- one packet more, before the first one with the same APID or a higher one
+abbrev pub put_by_apid : Placed → List Placed → List Placed
+put_by_apid one [] = one ∷ []
+put_by_apid one (next ∷ later) =
+    cond (nat_le (apid_of one.packet) (apid_of next.packet))
+    (one ∷ next ∷ later)
+    (next ∷ put_by_apid one later)
+
+-- packets in the order of their APIDs; those of one APID keep the order that they had
+abbrev pub by_apid : List Placed → List Placed
+by_apid [] = []
+by_apid (one ∷ later) = put_by_apid one (by_apid later)
+
+-- ---- in runs
+
+-- A packet goes on with a run after another one: it is the next of the same APID in the recording, so that none of that
+-- APID which both recordings have stands between, and it has the next sequence count. After 16383 comes 0.
+abbrev pub goes_on : Placed → Placed → Bool
+goes_on one next =
+    (apid_of next.packet == apid_of one.packet) && (next.apid_number == one.apid_number + 1)
+    && (count_of next.packet == (count_of one.packet + 1) % 16384)
+
+-- the runs, with one packet more before the first
+abbrev pub with_first : Placed → List (List Placed) → List (List Placed)
+with_first one [] = (one ∷ []) ∷ []
+with_first one ([] ∷ runs) = (one ∷ []) ∷ runs
+with_first one ((next ∷ later) ∷ runs) =
+    cond (goes_on one next) ((one ∷ next ∷ later) ∷ runs) ((one ∷ []) ∷ (next ∷ later) ∷ runs)
+
+-- packets in runs, each as long as may be
+abbrev pub runs_of : List Placed → List (List Placed)
+runs_of [] = []
+runs_of (one ∷ later) = with_first one (runs_of later)
+
+-- how many packets the first run has
+abbrev pub first_run : List Placed → ℕ
+first_run [] = 0
+first_run (one ∷ []) = 1
+first_run (one ∷ next ∷ later) = cond (goes_on one next) (first_run (next ∷ later) + 1) 1

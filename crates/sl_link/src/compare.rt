@@ -1,9 +1,13 @@
 //! Which packets only one of two recordings delivers.
-ghost use Rattle.std.specs.Prelude.{◌≡◌, ◌⊎◌, ◌<◌, ◌-◌, [], ℕ, List, IfOk, IfErr, IfSome, IfNone, true, false};
+ghost use Rattle.std.specs.Prelude.{◌≡◌, ◌⊎◌, ◌<◌, ◌-◌, [], ℕ, List, ⊤, IfOk, IfErr, IfSome, IfNone, OnOk, true, false};
 ghost use Rattle.sl_tcframe.specs.TcDelimited.{tc_frames_of};
 ghost use Rattle.sl_tmframe.specs.TmDelimited.{tm_frames_of};
 ghost use Rattle.sl_link.specs.Compare.{Compares, ReadsBeginning};
-ghost use Rattle.sl_link.specs.Io.Streams.{StopsReading};
+ghost use Rattle.sl_link.specs.Compare.Text.{difference_text};
+ghost use Rattle.sl_pair.specs.Pairing.{ByChannel, StandsAfter};
+ghost use Rattle.sl_link.specs.Verbs.Packets.Tc.{tc_channel_name};
+ghost use Rattle.sl_link.specs.Verbs.Packets.Tm.{tm_channel_name};
+ghost use Rattle.sl_link.specs.Io.Streams.{StopsReading, StopsWriting, WritesText};
 ghost use Rattle.sl_link.specs.Kind.Delivery.{MayRefuseStoreMemory, counts_in, packets_by_channel};
 ghost use Rattle.sl_link.specs.Kind.Tc.{MayRefuseStoreMemoryTc, tc_counts, tc_packets};
 ghost use Rattle.sl_link.specs.Kind.Tm.{MayRefuseStoreMemoryTm, tm_counts, tm_packets};
@@ -11,12 +15,14 @@ ghost use Rattle.sl_link.specs.Link.Managed.{Parameters, tc_format};
 ghost use Rattle.sl_link.specs.Tally.{recording_counts};
 ghost use Rattle.sl_link.specs.Framing.{MayRefuseMemoryAtSome, chunk_size};
 
+mod text;
 mod turns;
 
 use crate::framing::{CHUNK_SIZE, Framer};
 use crate::kind::Deliverer;
 use crate::link::managed::Managed;
 use crate::link::totals::Totals;
+use crate::verbs::packets::printer::ChannelKind;
 use sl_io::{Counted, LinkFault};
 use sl_pair::{Answer, Pairing, Station};
 use sl_tcflow::Receiver;
@@ -25,7 +31,8 @@ use sl_tmflow::Extractor;
 use sl_tmframe::TmFramer;
 use std::alloc::Global;
 use std::hash::BuildHasher;
-use std::io::Read;
+use std::io::{Read, Write};
+use text::write_left;
 use turns::{Recording, read_turn};
 
 /// How two recordings compare.
@@ -129,6 +136,46 @@ pub fn compare_tc<A: Read, B: Read, S: BuildHasher + Copy>(
         other_managed,
         other,
     )
+}
+
+/// Writes what only one of two recordings of TM transfer frames delivers, by virtual channel, APID
+/// and place: a line for each run of packets (docs/compare.md).
+pub fn write_difference_tm<S: BuildHasher + Copy, W: Write>(
+    compared: &Compared<S>,
+    writer: &mut Counted<W>,
+) -> Result<(), LinkFault>
+    // The lines of what is left are written, and nothing else.
+    ensures written { OnOk result ((firsts seconds : ByChannel)
+        → StandsAfter compared.now.left firsts seconds → WritesText W.contents writer.old writer.new
+        (difference_text false tm_channel_name firsts seconds 8)) }
+    // The fault is `Write` where the writer had one, or `Memory`, and a prefix of the lines is
+    // written.
+    ensures fault { IfErr result (λ fault. (firsts seconds : ByChannel)
+        → StandsAfter compared.now.left firsts seconds
+        → StopsWriting W.contents writer.old writer.new
+        (difference_text false tm_channel_name firsts seconds 8) ⊤ fault) }
+{
+    write_left(&compared.left, ChannelKind::VirtualChannel, 8, writer)
+}
+
+/// Writes what only one of two recordings of TC transfer frames delivers, by virtual channel and
+/// MAP, APID and place: a line for each run of packets (docs/compare.md).
+pub fn write_difference_tc<S: BuildHasher + Copy, W: Write>(
+    compared: &Compared<S>,
+    writer: &mut Counted<W>,
+) -> Result<(), LinkFault>
+    // The lines of what is left are written, and nothing else.
+    ensures written { OnOk result ((firsts seconds : ByChannel)
+        → StandsAfter compared.now.left firsts seconds → WritesText W.contents writer.old writer.new
+        (difference_text false tc_channel_name firsts seconds 4096)) }
+    // The fault is `Write` where the writer had one, or `Memory`, and a prefix of the lines is
+    // written.
+    ensures fault { IfErr result (λ fault. (firsts seconds : ByChannel)
+        → StandsAfter compared.now.left firsts seconds
+        → StopsWriting W.contents writer.old writer.new
+        (difference_text false tc_channel_name firsts seconds 4096) ⊤ fault) }
+{
+    write_left(&compared.left, ChannelKind::Map, 4096, writer)
 }
 
 // Reads two recordings to their ends, in turns, and answers which packets only one of them

@@ -33,7 +33,7 @@ mod same;
 mod tally;
 mod verbs;
 
-pub use compare::{Compared, compare_tc, compare_tm};
+pub use compare::{Compared, compare_tc, compare_tm, write_difference_tc, write_difference_tm};
 pub use engine::{Engine, RecordingKind, VerbName, run_engine};
 pub use link::managed::{Managed, ManagedFault};
 pub use link::totals::Totals;

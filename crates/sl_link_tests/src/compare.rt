@@ -5,7 +5,10 @@ use super::support::recordings::{
 };
 use super::support::rows::{Stop, holds};
 use super::support::streams::{FailsAfter, InPieces, Unreadable};
-use sl_link::{Compared, Counted, LinkFault, Managed, compare_tc, compare_tm};
+use sl_link::{
+    Compared, Counted, LinkFault, Managed, compare_tc, compare_tm, write_difference_tc,
+    write_difference_tm,
+};
 use sl_pair::{Answer, Station};
 use std::alloc::{AllocError, Global};
 use std::hash::{BuildHasherDefault, FoldHasher};
@@ -97,6 +100,79 @@ const TC_CASES: [Case; 4] = [
     (&[WHOLE, SECOND], &[WHOLE], (Answer::Different, (1, 0), (2, 1))),
     (&[WHOLE], &DIVIDED, (Answer::Different, (1, 1), (1, 1))),
 ];
+
+// Two TM recordings, and the lines of what only one of them delivers.
+const TM_TEXTS: [(&[&str], &[&str], &str); 3] = [
+    (&THROUGH, &AROUND_IDLE, ""),
+    // The packets of APID 1 and 2 stand for themselves; that of APID 3 was lost with a frame.
+    (&THROUGH, &WITH_GAP, "< vc 0 apid 3 counts 0 packets 1\n"),
+    (
+        &[FIRST, TEN_FILLED],
+        &COUNTED,
+        "> vc 0 apid 1 counts 16383..0 packets 2\n\
+         > vc 0 apid 1 counts 2 packets 1\n\
+         > vc 0 apid 2 counts 6 packets 1\n",
+    ),
+];
+
+// Packets of APID 2 and 1, the latter with the counts 16383, 0, 0 and 2; the second of the two with
+// the count 0 is that of `TEN_FILLED`.
+const COUNTED: [&str; 10] = [
+    FIRST, FULL, FIRST, LAST_COUNT, FIRST, NO_COUNT, FIRST, TEN_FILLED, FIRST, SECOND_COUNT,
+];
+
+const LAST_COUNT: &str = "0001ffff0003aabbccdd07ffc000000900000000000000000000";
+
+const NO_COUNT: &str = "0001c0000003aabbccde07ffc000000900000000000000000000";
+
+const SECOND_COUNT: &str = "0001c0020003aabbccdd07ffc000000900000000000000000000";
+
+// Two TC recordings, and such lines.
+const TC_TEXTS: [(&[&str], &[&str], &str); 2] = [
+    (&[WHOLE], &[WHOLE_BD], ""),
+    (
+        &[WHOLE, SECOND],
+        &DIVIDED,
+        "< vc 0 map 0 apid 1 counts 0 packets 1\n\
+         < vc 0 map 0 apid 1 counts 0 packets 1\n\
+         > vc 5 map 0 apid 2 counts 5 packets 1\n",
+    ),
+];
+
+fn text_tm(alloc: Global, managed: &Managed, one: &[u8], other: &[u8]) -> Result<Vec<u8>, Stop> {
+    let (mut one, mut other) = (Counted::new(one), Counted::new(other));
+    let hasher: Hasher = BuildHasherDefault::new();
+    let compared = compare_tm(alloc, hasher, managed, &mut one, managed, &mut other)?;
+    let mut writer = Counted::new(Vec::new(alloc));
+    write_difference_tm(&compared, &mut writer)?;
+    Ok(writer.into_inner())
+}
+
+fn text_tc(alloc: Global, managed: &Managed, one: &[u8], other: &[u8]) -> Result<Vec<u8>, Stop> {
+    let (mut one, mut other) = (Counted::new(one), Counted::new(other));
+    let hasher: Hasher = BuildHasherDefault::new();
+    let compared = compare_tc(alloc, hasher, managed, &mut one, managed, &mut other)?;
+    let mut writer = Counted::new(Vec::new(alloc));
+    write_difference_tc(&compared, &mut writer)?;
+    Ok(writer.into_inner())
+}
+
+#[test]
+fn what_is_left_is_written_in_runs(rt: HostRuntime) -> Result<(), Stop> {
+    let alloc = rt.alloc();
+    let managed = link(1000)?;
+    for (one, other, wanted) in &TM_TEXTS {
+        let (one, other) = (octets(alloc, one)?, octets(alloc, other)?);
+        let text = text_tm(alloc, &managed, one.as_slice(), other.as_slice())?;
+        holds(&rt, wanted, text.as_slice() == wanted.as_bytes());
+    }
+    for (one, other, wanted) in &TC_TEXTS {
+        let (one, other) = (octets(alloc, one)?, octets(alloc, other)?);
+        let text = text_tc(alloc, &managed, one.as_slice(), other.as_slice())?;
+        holds(&rt, wanted, text.as_slice() == wanted.as_bytes());
+    }
+    Ok(())
+}
 
 // What is found with the recordings exchanged.
 fn turned(outcome: &Outcome) -> Outcome {

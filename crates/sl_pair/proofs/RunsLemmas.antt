@@ -1,10 +1,9 @@
 -- Packets in the order of their APIDs, and their runs.
-use Rattle.std.proofs.Common.{◌≡◌, ℕ, zero, suc, ◌+◌, ◌*◌, ◌-◌, ◌<◌, ◌≤◌, ◌⊎◌, Bool, true, false, List, [], ◌∷◌, length, length-drop, map, drop, sum_by, get_or, Less, Greater, inl, inr, refl, sym, ◌∙◌, ap, arith}
+use Rattle.std.proofs.Common.{◌≡◌, ℕ, ◌+◌, ◌*◌, ◌-◌, ◌<◌, ◌≤◌, List, [], ◌∷◌, length, length-drop, map, drop, sum_by, get_or, Less, Greater, inl, inr, refl, sym, ap, arith}
 use Rattle.std.specs.Bool.{⊤}
 use Rattle.std.specs.List.{AllByRecursion}
 use Rattle.std.specs.List.Sorted.{IsNonDecreasingBy, IsPermutation, IsSortedByKey, IsStableByKey, IsStrictlyIncreasing, IsStrictlySortedBy}
 use Rattle.std.specs.Cmp.{nat_cmp_is, ranked}
-
 use Rattle.std.proofs.lemmas.Map.Keys.{IsStrictlyIncreasing-from_sorted, sorted_from_strictly_increasing}
 use Rattle.std.specs.Ordering.{nat_cmp}
 use Rattle.std.proofs.Math.Nat.{mul-le-mul_left}
@@ -12,7 +11,7 @@ use Rattle.std.proofs.lemmas.Bool.Decides.{leb_tells}
 use Rattle.std.proofs.lemmas.Bool.{cases_lt}
 use Rattle.std.proofs.lemmas.List.{drop_more, get_or-map, length-map, nil_from_length}
 use Rattle.std.proofs.lemmas.List.Sums.{get_or-le-sum_by, sum_by-cons}
-use Rattle.std.proofs.lemmas.List.Sorted.{IsNonDecreasingBy-from_all_adjacent, IsNonDecreasingBy-from_sort, IsPermutation-cons, IsPermutation-middle, IsPermutation-refl, IsPermutation-trans, sum_by-IsPermutation, ties_still_rise}
+use Rattle.std.proofs.lemmas.List.Sorted.{IsNonDecreasingBy-from_all_adjacent, IsPermutation-cons, IsPermutation-middle, IsPermutation-refl, IsPermutation-trans, sum_by-IsPermutation, ties_still_rise}
 use Rattle.sl_packet.specs.Packet.{apid_of}
 use Rattle.sl_pair.specs.Placed.{Placed}
 use Rattle.sl_pair.specs.Runs.{by_apid, first_run, put_by_apid}
@@ -142,13 +141,13 @@ module _ (xs ys : List Placed) (rise : IsStrictlyIncreasing (map (λ (x : Placed
       let n = place_in_order bound in
       in_order n (by_apid xs) ys (IsStrictlyIncreasing-from_sorted _ (sorted_from n (by_apid xs) (by_ascends bound xs (ascends_from _ xs (sorted_from_strictly_increasing _ rise)) (all_below xs)))) (IsPermutation-trans (by_apid xs) xs ys (by_permutes xs) moved)
       (IsNonDecreasingBy-from_all_adjacent n ys (λ k d inside.
-          let one = get_or ys k d in
-          let next = get_or ys (k + 1) d in
-          let below : one.number < bound = omega (arith, get_or-le-sum_by (λ (x : Placed). x.number) ys k d (omega (arith, inside)), sum_by-IsPermutation (λ (x : Placed). x.number) xs ys moved) in
-          let apid : apid_of one.packet ≤ apid_of next.packet = apids k (k + 1) d (omega arith) inside in
-          elim (cases_lt (apid_of one.packet) (apid_of next.packet)) [
-            | inl lower ↦ omega (arith, apid_first bound next one below lower)
-            | inr same ↦
-                let equal : apid_of one.packet ≡ apid_of next.packet = omega (arith, apid, same) in
-                omega (arith, ties_still_rise (λ (x : Placed). x.number) (λ (x : Placed). apid_of x.packet) xs ys by_number stable k d inside equal, ap (λ a. bound * a) equal)
-          ]))
+      let one = get_or ys k d in
+      let next = get_or ys (k + 1) d in
+      let below : one.number < bound = omega (arith, get_or-le-sum_by (λ (x : Placed). x.number) ys k d (omega (arith, inside)), sum_by-IsPermutation (λ (x : Placed). x.number) xs ys moved) in
+      let apid : apid_of one.packet ≤ apid_of next.packet = apids k (k + 1) d (omega arith) inside in
+      elim (cases_lt (apid_of one.packet) (apid_of next.packet)) [
+        | inl lower ↦ omega (arith, apid_first bound next one below lower)
+        | inr same ↦
+            let equal : apid_of one.packet ≡ apid_of next.packet = omega (arith, apid, same) in
+            omega (arith, ties_still_rise (λ (x : Placed). x.number) (λ (x : Placed). apid_of x.packet) xs ys by_number stable k d inside equal, ap (λ a. bound * a) equal)
+      ]))

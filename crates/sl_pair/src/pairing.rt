@@ -117,11 +117,7 @@ impl<S: BuildHasher + Copy> Pairing<S> {
 
     /// The same packets in the order of their APIDs. Those of one APID stand in the recording's
     /// order.
-    pub fn left_by_apid(
-        &self,
-        station: Station,
-        channel: u16,
-    ) -> Result<Vec<Left<'_>>, AllocError>
+    pub fn left_by_apid(&self, station: Station, channel: u16) -> Result<Vec<Left<'_>>, AllocError>
         ensures { IfOk result (λ left. (own others : ByChannel)
             → in_order station (StandsAfter self.now) own others
             → left.items ≡ by_apid (left_in (own channel) (others channel))) }

@@ -1,3 +1,4 @@
 -- Two recordings that are compared.
 pub mod Ends
+pub mod Text
 pub mod Turns

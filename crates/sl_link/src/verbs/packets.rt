@@ -3,7 +3,7 @@ ghost use Rattle.std.specs.Prelude.{ℕ, [], List};
 ghost use Rattle.sl_link.specs.Kind.Delivery.{HasDelivered};
 
 mod lines;
-mod printer;
+pub mod printer;
 
 use crate::io::output::{Output, Written};
 use crate::kind::Deliverer;

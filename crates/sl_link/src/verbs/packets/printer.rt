@@ -5,7 +5,7 @@ ghost use Rattle.sl_link.specs.Verbs.Packets.Printed.{channel_name};
 ghost use Rattle.sl_link.specs.Verbs.Packets.Line.{packet_line};
 ghost use Rattle.sl_link.specs.Verbs.Packets.Tc.{tc_channel_text};
 ghost use Rattle.sl_link.specs.Io.Output.{Adds, KeepsWriter};
-ghost use Rattle.sl_link.specs.Io.Lines.{HasRoom, fields_width};
+ghost use Rattle.sl_link.specs.Io.Lines.{HasRoomFor, fields_width, part_width};
 ghost use Rattle.sl_link.specs.Io.Streams.{StopsWriting};
 
 use crate::io::lines::Lines;
@@ -84,8 +84,9 @@ fn print_packet<W: Write>(
     Ok(())
 }
 
-fn push_channel(lines: &mut Lines, kind: ChannelKind, channel: u16)
-    requires { HasRoom lines.old }
+/// Adds the name of a channel.
+pub fn push_channel(lines: &mut Lines, kind: ChannelKind, channel: u16)
+    requires { HasRoomFor part_width lines.old }
     ensures text { lines.new ≡ lines.old ++ channel_name kind channel }
     ensures short { length lines.new ≤ length lines.old + fields_width }
 {
@@ -100,7 +101,7 @@ fn push_channel(lines: &mut Lines, kind: ChannelKind, channel: u16)
 }
 
 fn push_map(lines: &mut Lines, vc: u16, map: u16)
-    requires { HasRoom lines.old }
+    requires { HasRoomFor part_width lines.old }
     ensures text { lines.new ≡ lines.old ++ tc_channel_text vc map }
     ensures short { length lines.new ≤ length lines.old + fields_width }
 {

@@ -8,12 +8,15 @@
 //! - `packets_` lists the packets that the frames deliver;
 //! - `normalise_` writes these packets into new frames in one fixed way, the normal form;
 //! - `same_packets_` reports whether two recordings deliver the same packets;
-//! - `same_packets_in_memory_` does so for recordings that are slices.
+//! - `same_packets_in_memory_` does so for recordings that are slices;
+//! - `compare_` has the packets that only one of two recordings delivers, and `write_difference_`
+//!   writes them.
 //!
 //! Each call is under the [`Managed`] parameters of the link, and answers why it stopped, a
 //! [`LinkFault`], or what it found. Those of the first three points read a [`Counted`] stream,
-//! write another one and answer what they counted, their [`Totals`]. The last two answer a `bool`;
-//! `same_packets_` reads two such streams. [`run_engine`] makes a call of the first three points,
+//! write another one and answer what they counted, their [`Totals`]. `same_packets_` and
+//! `same_packets_in_memory_` answer a `bool`, and `compare_` a [`Compared`]; all but the second read
+//! two such streams. [`run_engine`] makes a call of the first three points,
 //! which a [`VerbName`] and a [`RecordingKind`] choose.
 //!
 //! How a recording goes through the modules is drawn in docs/architecture.md.

@@ -139,43 +139,47 @@ pub fn compare_tc<A: Read, B: Read, S: BuildHasher + Copy>(
 }
 
 /// Writes what only one of two recordings of TM transfer frames delivers, by virtual channel, APID
-/// and place: a line for each run of packets (docs/compare.md).
+/// and place (docs/compare.md): a line for each run of packets, or where `each` is true for each
+/// packet, as `packets` lists it.
 pub fn write_difference_tm<S: BuildHasher + Copy, W: Write>(
     compared: &Compared<S>,
+    each: bool,
     writer: &mut Counted<W>,
 ) -> Result<(), LinkFault>
     // The lines of what is left are written, and nothing else.
     ensures written { OnOk result ((firsts seconds : ByChannel)
         → StandsAfter compared.now.left firsts seconds → WritesText W.contents writer.old writer.new
-        (difference_text false tm_channel_name firsts seconds 8)) }
+        (difference_text each tm_channel_name firsts seconds 8)) }
     // The fault is `Write` where the writer had one, or `Memory`, and a prefix of the lines is
     // written.
     ensures fault { IfErr result (λ fault. (firsts seconds : ByChannel)
         → StandsAfter compared.now.left firsts seconds
         → StopsWriting W.contents writer.old writer.new
-        (difference_text false tm_channel_name firsts seconds 8) ⊤ fault) }
+        (difference_text each tm_channel_name firsts seconds 8) ⊤ fault) }
 {
-    write_left(&compared.left, ChannelKind::VirtualChannel, 8, writer)
+    write_left(&compared.left, ChannelKind::VirtualChannel, 8, each, writer)
 }
 
 /// Writes what only one of two recordings of TC transfer frames delivers, by virtual channel and
-/// MAP, APID and place: a line for each run of packets (docs/compare.md).
+/// MAP, APID and place (docs/compare.md): a line for each run of packets, or where `each` is true for
+/// each packet, as `packets` lists it.
 pub fn write_difference_tc<S: BuildHasher + Copy, W: Write>(
     compared: &Compared<S>,
+    each: bool,
     writer: &mut Counted<W>,
 ) -> Result<(), LinkFault>
     // The lines of what is left are written, and nothing else.
     ensures written { OnOk result ((firsts seconds : ByChannel)
         → StandsAfter compared.now.left firsts seconds → WritesText W.contents writer.old writer.new
-        (difference_text false tc_channel_name firsts seconds 4096)) }
+        (difference_text each tc_channel_name firsts seconds 4096)) }
     // The fault is `Write` where the writer had one, or `Memory`, and a prefix of the lines is
     // written.
     ensures fault { IfErr result (λ fault. (firsts seconds : ByChannel)
         → StandsAfter compared.now.left firsts seconds
         → StopsWriting W.contents writer.old writer.new
-        (difference_text false tc_channel_name firsts seconds 4096) ⊤ fault) }
+        (difference_text each tc_channel_name firsts seconds 4096) ⊤ fault) }
 {
-    write_left(&compared.left, ChannelKind::Map, 4096, writer)
+    write_left(&compared.left, ChannelKind::Map, 4096, each, writer)
 }
 
 // Reads two recordings to their ends, in turns, and answers which packets only one of them

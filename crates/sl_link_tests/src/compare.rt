@@ -1,7 +1,7 @@
 //! Two recordings compared: the answer, what is left of each, and faults.
 use super::support::recordings::{
-    AROUND_IDLE, DAMAGED, DIVIDED, FIRST, SECOND, TEN_FILLED, THROUGH, WHOLE, WHOLE_BD,
-    WITH_FECF, WITH_GAP, octets,
+    AROUND_IDLE, DAMAGED, DIVIDED, FIRST, SECOND, TEN_FILLED, THROUGH, WHOLE, WHOLE_BD, WITH_FECF,
+    WITH_GAP, octets,
 };
 use super::support::rows::{Stop, holds};
 use super::support::streams::{FailsAfter, InPieces, Unreadable};
@@ -78,7 +78,11 @@ type Case<'a> = (&'a [&'a str], &'a [&'a str], Outcome);
 
 const TM_CASES: [Case; 7] = [
     (&[], &[], (Answer::Same, (0, 0), (0, 0))),
-    (&[], &[FIRST, TEN_FILLED], (Answer::Different, (0, 1), (0, 1))),
+    (
+        &[],
+        &[FIRST, TEN_FILLED],
+        (Answer::Different, (0, 1), (0, 1)),
+    ),
     (
         &[FIRST, TEN_FILLED],
         &["0010aabb1800", TEN_FILLED],
@@ -97,7 +101,11 @@ const TM_CASES: [Case; 7] = [
 const TC_CASES: [Case; 4] = [
     (&[], &[], (Answer::Same, (0, 0), (0, 0))),
     (&[WHOLE], &[WHOLE_BD], (Answer::Same, (0, 0), (1, 1))),
-    (&[WHOLE, SECOND], &[WHOLE], (Answer::Different, (1, 0), (2, 1))),
+    (
+        &[WHOLE, SECOND],
+        &[WHOLE],
+        (Answer::Different, (1, 0), (2, 1)),
+    ),
     (&[WHOLE], &DIVIDED, (Answer::Different, (1, 1), (1, 1))),
 ];
 
@@ -118,7 +126,16 @@ const TM_TEXTS: [(&[&str], &[&str], &str); 3] = [
 // Packets of APID 2 and 1, the latter with the counts 16383, 0, 0 and 2; the second of the two with
 // the count 0 is that of `TEN_FILLED`.
 const COUNTED: [&str; 10] = [
-    FIRST, FULL, FIRST, LAST_COUNT, FIRST, NO_COUNT, FIRST, TEN_FILLED, FIRST, SECOND_COUNT,
+    FIRST,
+    FULL,
+    FIRST,
+    LAST_COUNT,
+    FIRST,
+    NO_COUNT,
+    FIRST,
+    TEN_FILLED,
+    FIRST,
+    SECOND_COUNT,
 ];
 
 const LAST_COUNT: &str = "0001ffff0003aabbccdd07ffc000000900000000000000000000";
@@ -139,21 +156,33 @@ const TC_TEXTS: [(&[&str], &[&str], &str); 2] = [
     ),
 ];
 
-fn text_tm(alloc: Global, managed: &Managed, one: &[u8], other: &[u8]) -> Result<Vec<u8>, Stop> {
+fn text_tm(
+    alloc: Global,
+    managed: &Managed,
+    each: bool,
+    one: &[u8],
+    other: &[u8],
+) -> Result<Vec<u8>, Stop> {
     let (mut one, mut other) = (Counted::new(one), Counted::new(other));
     let hasher: Hasher = BuildHasherDefault::new();
     let compared = compare_tm(alloc, hasher, managed, &mut one, managed, &mut other)?;
     let mut writer = Counted::new(Vec::new(alloc));
-    write_difference_tm(&compared, &mut writer)?;
+    write_difference_tm(&compared, each, &mut writer)?;
     Ok(writer.into_inner())
 }
 
-fn text_tc(alloc: Global, managed: &Managed, one: &[u8], other: &[u8]) -> Result<Vec<u8>, Stop> {
+fn text_tc(
+    alloc: Global,
+    managed: &Managed,
+    each: bool,
+    one: &[u8],
+    other: &[u8],
+) -> Result<Vec<u8>, Stop> {
     let (mut one, mut other) = (Counted::new(one), Counted::new(other));
     let hasher: Hasher = BuildHasherDefault::new();
     let compared = compare_tc(alloc, hasher, managed, &mut one, managed, &mut other)?;
     let mut writer = Counted::new(Vec::new(alloc));
-    write_difference_tc(&compared, &mut writer)?;
+    write_difference_tc(&compared, each, &mut writer)?;
     Ok(writer.into_inner())
 }
 
@@ -163,14 +192,34 @@ fn what_is_left_is_written_in_runs(rt: HostRuntime) -> Result<(), Stop> {
     let managed = link(1000)?;
     for (one, other, wanted) in &TM_TEXTS {
         let (one, other) = (octets(alloc, one)?, octets(alloc, other)?);
-        let text = text_tm(alloc, &managed, one.as_slice(), other.as_slice())?;
+        let text = text_tm(alloc, &managed, false, one.as_slice(), other.as_slice())?;
         holds(&rt, wanted, text.as_slice() == wanted.as_bytes());
     }
     for (one, other, wanted) in &TC_TEXTS {
         let (one, other) = (octets(alloc, one)?, octets(alloc, other)?);
-        let text = text_tc(alloc, &managed, one.as_slice(), other.as_slice())?;
+        let text = text_tc(alloc, &managed, false, one.as_slice(), other.as_slice())?;
         holds(&rt, wanted, text.as_slice() == wanted.as_bytes());
     }
+    Ok(())
+}
+
+// The packet that was lost with a frame, and that of a unit, as `packets` lists them.
+const TM_EACH: &str =
+    "< vc 0 apid 3 type 0 secondary 0 flags 3 count 0 octets 10 0003c000000301020304\n";
+
+const TC_EACH: &str =
+    "> vc 0 map 0 apid 1 type 1 secondary 0 flags 3 count 0 octets 10 1001c0000003aabbccdd\n";
+
+#[test]
+fn each_packet_that_is_left_is_written(rt: HostRuntime) -> Result<(), Stop> {
+    let alloc = rt.alloc();
+    let managed = link(1000)?;
+    let (one, other) = (octets(alloc, &THROUGH)?, octets(alloc, &WITH_GAP)?);
+    let text = text_tm(alloc, &managed, true, one.as_slice(), other.as_slice())?;
+    holds(&rt, &TM_EACH, text.as_slice() == TM_EACH.as_bytes());
+    let other = octets(alloc, &[WHOLE])?;
+    let text = text_tc(alloc, &managed, true, "".as_bytes(), other.as_slice())?;
+    holds(&rt, &TC_EACH, text.as_slice() == TC_EACH.as_bytes());
     Ok(())
 }
 
@@ -248,9 +297,19 @@ fn either_recording_may_stop_it(rt: HostRuntime) -> Result<(), Stop> {
     };
     let second = stops(alloc, 32, (whole, fails), (LinkFault::Read, (0, 1)))?;
     holds(&rt, &"second", second);
-    let long = stops(alloc, 31, (whole, "".as_bytes()), (LinkFault::TooLong, (0, 0)))?;
+    let long = stops(
+        alloc,
+        31,
+        (whole, "".as_bytes()),
+        (LinkFault::TooLong, (0, 0)),
+    )?;
     holds(&rt, &"long", long);
-    let other_long = stops(alloc, 31, ("".as_bytes(), whole), (LinkFault::TooLong, (0, 0)))?;
+    let other_long = stops(
+        alloc,
+        31,
+        ("".as_bytes(), whole),
+        (LinkFault::TooLong, (0, 0)),
+    )?;
     holds(&rt, &"other long", other_long);
     Ok(())
 }

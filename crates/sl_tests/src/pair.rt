@@ -1,7 +1,7 @@
 //! Two recordings whose packets come in turns. What is left follows from counting by hand.
 use crate::support::packets::hand;
 use crate::support::rows::{Stop, holds};
-use sl_pair::{Answer, Pairing, Station};
+use sl_pair::{Answer, Pairing, Station, first_run};
 use std::alloc::Global;
 use std::hash::{BuildHasherDefault, FoldHasher};
 
@@ -128,6 +128,40 @@ fn what_has_no_counterpart_is_left(rt: HostRuntime) -> Result<(), Stop> {
             );
         }
     }
+    Ok(())
+}
+
+// Packets of APID 1 with the counts 16383 and 2; `A` and `B` have the counts 0 and 1.
+const LAST: [u8; 7] = [0x00, 0x01, 0xFF, 0xFF, 0x00, 0x00, 0xAA];
+
+const GAP: [u8; 7] = [0x00, 0x01, 0xC0, 0x02, 0x00, 0x00, 0xAA];
+
+static RUNS: [Coming; 5] = [
+    (Station::Second, 9, &C),
+    (Station::Second, 9, &LAST),
+    (Station::Second, 9, &A),
+    (Station::Second, 9, &B),
+    (Station::Second, 9, &GAP),
+];
+
+// The APIDs and counts of packets, and how many packets the runs have.
+#[test]
+fn what_is_left_is_in_runs(rt: HostRuntime) -> Result<(), Stop> {
+    let pairing = pairing_of(rt.alloc(), &RUNS)?;
+    let left = pairing.left_by_apid(Station::Second, 9)?;
+    let wanted = [(1, 16383), (1, 0), (1, 1), (1, 2), (2, 0)];
+    holds(&rt, &"length", left.len() == wanted.len());
+    for (one, fields) in left.iter().zip(&wanted) {
+        holds(&rt, fields, (one.apid(), one.count()) == *fields);
+    }
+    let left = left.as_slice();
+    holds(&rt, &"run", first_run(left) == 4);
+    holds(
+        &rt,
+        &"last",
+        left.last().is_some_and(|one| one.number() == 0),
+    );
+    holds(&rt, &"none", first_run(&[]) == 0);
     Ok(())
 }
 

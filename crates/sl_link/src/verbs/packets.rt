@@ -2,7 +2,7 @@
 ghost use Rattle.std.specs.Prelude.{ℕ, [], List};
 ghost use Rattle.sl_link.specs.Kind.Delivery.{HasDelivered};
 
-mod lines;
+pub mod lines;
 pub mod printer;
 
 use crate::io::output::{Output, Written};

@@ -3,17 +3,18 @@ use Rattle.std.proofs.Common.{◌≡◌, ℕ, zero, suc, ◌+◌, ◌-◌, ◌<�
 use Rattle.std.proofs.Common.{append-nil, Option}
 use Rattle.std.specs.Prelude.{flat_map}
 use Rattle.std.specs.List.{range_with_len}
-use Rattle.std.proofs.lemmas.List.{nil_from_length}
+use Rattle.std.proofs.lemmas.List.{drop_more}
 use Rattle.sl_packet.specs.Packet.{apid_of}
 use Rattle.sl_io.specs.declared.counted.Counted.{Counted}
 use Rattle.sl_io.specs.declared.fault.LinkFault.{LinkFault}
 use Rattle.sl_link.specs.declared.io.output.Output.{Output}
 use Rattle.sl_link.specs.Io.Output.{Adds}
 use Rattle.sl_link.specs.Io.Streams.{StopsWriting, WritesText}
-use Rattle.sl_link.proofs.lemmas.Io.Streams.{adds_both, adds_lines, stops_first, stops_last, stops_then}
+use Rattle.sl_link.proofs.lemmas.Io.Streams.{adds_both, adds_lines, stops_first, stops_then}
 use Rattle.sl_pair.specs.Placed.{Placed}
 use Rattle.sl_pair.specs.Runs.{count_of, first_run, goes_on, runs_of}
 use Rattle.sl_pair.specs.declared.channel.Station.{Station}
+use Rattle.sl_link.specs.Verbs.Packets.Line.{packet_line}
 use Rattle.sl_link.specs.Compare.Text.{left_text, mark, run_line, run_text}
 
 -- within a list the default stands nowhere
@@ -63,36 +64,47 @@ runs_split (one ∷ next ∷ later) some =
         rw (rw are at behind, is, are, n) refl
     go (suc m) some are behind false is = rw (rw are at behind, is) (ap (λ l. (one ∷ []) ∷ l) (sym (rw are at behind)))
 
--- some of the text was added, and the lines of what is left are to come
-pub record IsWriting {W : Type 0} (contents : W → Option (List ℕ)) (start now : Output W) (station : Station) (name : List ℕ) (left later : List Placed) : Type 0 where
+-- the lines of the first run come before those of what is behind it
+pub runs_text_split : (station : Station) (name : List ℕ) (left : List Placed) → 0 < length left
+    → left_text false station name left ≡ run_line station name (take (first_run left) left) ++ left_text false station name (drop (first_run left) left)
+runs_text_split station name left some = ap (flat_map (run_line station name)) (runs_split left some)
+
+-- and the line of a packet before those of the packets behind it
+pub packets_text_split : (station : Station) (name : List ℕ) (left : List Placed) (at : ℕ) (one : Placed) → at < length left → one ≡ get_or left at one
+    → left_text true station name (drop at left) ≡ (mark station ++ packet_line name one.packet) ++ left_text true station name (drop (at + 1) left)
+packets_text_split station name left at one inside is =
+    ap (left_text true station name) (drop_more left at one inside ∙ ap (λ (x : Placed). x ∷ drop (at + 1) left) (sym is))
+
+-- ---- one after another
+
+-- some of the text was added, and that of what is left is to come
+pub record IsWriting {W : Type 0} (contents : W → Option (List ℕ)) (text : List Placed → List ℕ) (start now : Output W) (left later : List Placed) : Type 0 where
   pub done : List ℕ
-  pub parts : left_text false station name left ≡ done ++ left_text false station name later
+  pub parts : text left ≡ done ++ text later
   pub adds : Adds contents start done now
 
-module _ {W : Type 0} {contents : W → Option (List ℕ)} (station : Station) (name : List ℕ) where
-  pub writing_none : (start : Output W) (left : List Placed) → IsWriting contents start start station name left left
+module _ {W : Type 0} {contents : W → Option (List ℕ)} (text : List Placed → List ℕ) where
+  pub writing_none : (start : Output W) (left : List Placed) → IsWriting contents text start start left left
   writing_none start left = record { done = []; parts = refl; adds = adds_lines contents start start [] refl (sym (append-nil start.lines)) }
 
-  module _ {start old : Output W} {left later : List Placed} (s : IsWriting contents start old station name left later) where
-    pub writing_next : {new : Output W} → 0 < length later → Adds contents old (run_line station name (take (first_run later) later)) new
-        → IsWriting contents start new station name left (drop (first_run later) later)
-    writing_next some adds =
-        let line = run_line station name (take (first_run later) later) in
+  module _ {start old : Output W} {left later : List Placed} (s : IsWriting contents text start old left later) where
+    pub writing_next : {new : Output W} (line : List ℕ) (behind : List Placed) → text later ≡ line ++ text behind → Adds contents old line new → IsWriting contents text start new left behind
+    writing_next line behind split adds =
         record {
           done = s.done ++ line;
-          parts = rw (append_assoc s.done line (left_text false station name (drop (first_run later) later))) (s.parts ∙ ap (λ l. s.done ++ flat_map (run_line station name) l) (runs_split later some));
+          parts = rw (append_assoc s.done line (text behind)) (s.parts ∙ ap (λ l. s.done ++ l) split);
           adds = adds_both s.adds adds;
         }
 
-    pub writing_stops : {new : Counted W} {fault : LinkFault} → StopsWriting contents old.writer.now new old.lines ⊥ fault
-        → StopsWriting contents start.writer.now new (start.lines ++ left_text false station name left) ⊥ fault
-    writing_stops stops = rw s.parts (stops_first start.lines s.done (left_text false station name later) (stops_last s.adds stops))
+    -- a fault within the next line leaves a prefix of it
+    pub writing_stops : {new : Counted W} {fault : LinkFault} (line : List ℕ) (behind : List Placed) → text later ≡ line ++ text behind → StopsWriting contents old.writer.now new (old.lines ++ line) ⊥ fault
+        → StopsWriting contents start.writer.now new (start.lines ++ text left) ⊥ fault
+    writing_stops line behind split stops =
+        rw (s.parts, split, ← append_assoc s.done line (text behind)) (stops_first start.lines (s.done ++ line) (text behind) (stops_then line s.adds stops))
 
     -- all of it
-    pub writing_done : length later ≡ 0 → Adds contents start (left_text false station name left) old
-    writing_done none =
-        let gone : left_text false station name later ≡ [] = ap (left_text false station name) (nil_from_length later none) in
-        rw (s.parts, gone, append-nil) s.adds
+    pub writing_done : text later ≡ [] → Adds contents start (text left) old
+    writing_done none = rw (s.parts, none, append-nil) s.adds
 
 -- ---- channel by channel
 

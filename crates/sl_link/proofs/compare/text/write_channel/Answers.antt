@@ -1,4 +1,3 @@
-use Rattle.std.proofs.Common.{false}
 use Rattle.std.proofs.lemmas.Result.{MatchResult-weaker, on_ok_weaker}
 use Rattle.sl_pair.specs.Placed.{left_in}
 use Rattle.sl_pair.specs.Runs.{by_apid}
@@ -14,7 +13,7 @@ returns-in_err-write_station-clause-fault g c =
     passed_up _ _ c.from_residual.ensures.1 (λ firsts seconds s.
     let name = channel_name c.args.names c.args.channel in
     let at = c.args.channel in
-    stops_first c.args.out.now.lines (left_text false First name (by_apid (left_in (firsts at) (seconds at)))) (left_text false Second name (by_apid (left_in (seconds at) (firsts at))))
+    stops_first c.args.out.now.lines (left_text c.args.each First name (by_apid (left_in (firsts at) (seconds at)))) (left_text c.args.each Second name (by_apid (left_in (seconds at) (firsts at))))
     (c.in_err-write_station.ensures.fault firsts seconds s))
 
 pub returns-clause-lines : goal.returns-clause-lines
@@ -26,4 +25,4 @@ returns-clause-fault g c =
     MatchResult-weaker c.write_station-2.result c.write_station-2.ensures.fault (λ _ u. u) (λ fault stops firsts seconds s.
     let name = channel_name c.args.names c.args.channel in
     let at = c.args.channel in
-    stops_then (left_text false Second name (by_apid (left_in (seconds at) (firsts at)))) (c.in_ok-write_station.ensures.lines firsts seconds s) (stops seconds firsts s))
+    stops_then (left_text c.args.each Second name (by_apid (left_in (seconds at) (firsts at)))) (c.in_ok-write_station.ensures.lines firsts seconds s) (stops seconds firsts s))

@@ -1,5 +1,4 @@
 use Rattle.sl_pair.specs.Pairing.{ByChannel, StandsAfter}
-use Rattle.std.proofs.Common.{false}
 use Rattle.sl_link.specs.Compare.Text.{channel_text}
 use Rattle.sl_link.specs.Verbs.Packets.Printed.{channel_name}
 use Rattle.sl_link.specs.Io.Output.{KeepsWriter}
@@ -8,5 +7,5 @@ use Rattle.sl_link.proofs.compare.text.write_channels.Given as goal
 
 abbrev pub invariant-loop-channel : goal.invariant-loop-channel
 invariant-loop-channel g l =
-    ((firsts seconds : ByChannel) → StandsAfter l.left firsts seconds → IsListing g.W.Write.contents (channel_text false (channel_name l.names) firsts seconds) l.channels l.fn.out l.out l.channel)
+    ((firsts seconds : ByChannel) → StandsAfter l.left firsts seconds → IsListing g.W.Write.contents (channel_text l.each (channel_name l.names) firsts seconds) l.channels l.fn.out l.out l.channel)
     × KeepsWriter l.fn.out l.out

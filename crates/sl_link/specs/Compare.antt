@@ -1,4 +1,5 @@
 -- Which packets only one of two recordings has.
+pub mod Lost
 pub mod Text
 pub mod Turns
 use Rattle.std.specs.Prelude.{◌≡◌, ◌≤◌, ◌↔◌, ℕ, List, [], length, Option}

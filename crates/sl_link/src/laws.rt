@@ -1,4 +1,5 @@
 //! What holds of the definitions alone. Each function does nothing; its clauses are the laws.
+ghost use Rattle.sl_link.specs.Compare.Lost.{StationsLackLostPackets};
 ghost use Rattle.sl_link.specs.Verbs.Packets.Listed.{TmPacketsAreListed, TcPacketsAreListed};
 ghost use Rattle.sl_link.specs.Normalise.Separation.{TmFormsTellPackets, TcFormsTellPackets};
 
@@ -34,4 +35,13 @@ pub fn tm_packets_are_listed()
 #[tactic(auto, using(crate::proofs::lemmas::Verbs::Packets::Listed::tc_packets_are_listed))]
 pub fn tc_packets_are_listed()
     ensures { TcPacketsAreListed }
+{}
+
+/// What a station lacks of a pass is what it lost: a recording of the kept frames of a virtual
+/// channel lacks exactly the packets that ran through a frame that was lost, in some order, and has
+/// none of its own there, idle packets left out. The frame counts of the whole channel have no gap,
+/// and fewer than 256 frames in a row were lost between two that were kept.
+#[tactic(auto, using(crate::proofs::lemmas::Compare::Lost::stations_lack_lost_packets))]
+pub fn tm_stations_lack_lost_packets()
+    ensures { StationsLackLostPackets }
 {}

@@ -1,4 +1,5 @@
 -- Two recordings that are compared.
 pub mod Ends
+pub mod Lost
 pub mod Text
 pub mod Turns

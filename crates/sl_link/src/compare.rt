@@ -61,8 +61,9 @@ pub fn compare_tm<A: Read, B: Read, S: BuildHasher + Copy>(
 ) -> Result<Compared<S>, LinkFault>
     // Both recordings are read to their ends, and their packets are compared.
     ensures compared { IfOk result (Compares A.remaining B.remaining one.old one.new other.old
-        other.new (tm_packets one_managed.now) (tm_packets other_managed.now) (tm_counts one_managed.now)
-        (tm_counts other_managed.now) one_managed.now.max_octets other_managed.now.max_octets) }
+        other.new (tm_packets one_managed.now) (tm_packets other_managed.now)
+        (tm_counts one_managed.now) (tm_counts other_managed.now)
+        one_managed.now.max_octets other_managed.now.max_octets) }
     // A fault has its cause at one of the recordings, and the beginning of the other one was read.
     ensures fault { IfErr result (λ fault. (StopsReading A.remaining one.old one.new
         one_managed.now.max_octets chunk_size fault
@@ -106,8 +107,9 @@ pub fn compare_tc<A: Read, B: Read, S: BuildHasher + Copy>(
 ) -> Result<Compared<S>, LinkFault>
     // Both recordings are read to their ends, and their packets are compared.
     ensures compared { IfOk result (Compares A.remaining B.remaining one.old one.new other.old
-        other.new (tc_packets one_managed.now) (tc_packets other_managed.now) (tc_counts one_managed.now)
-        (tc_counts other_managed.now) one_managed.now.max_octets other_managed.now.max_octets) }
+        other.new (tc_packets one_managed.now) (tc_packets other_managed.now)
+        (tc_counts one_managed.now) (tc_counts other_managed.now)
+        one_managed.now.max_octets other_managed.now.max_octets) }
     // A fault has its cause at one of the recordings, and the beginning of the other one was read.
     ensures fault { IfErr result (λ fault. (StopsReading A.remaining one.old one.new
         one_managed.now.max_octets chunk_size fault
@@ -138,9 +140,11 @@ pub fn compare_tc<A: Read, B: Read, S: BuildHasher + Copy>(
     )
 }
 
-/// Writes what only one of two recordings of TM transfer frames delivers, by virtual channel, APID
-/// and place (docs/compare.md): a line for each run of packets, or where `each` is true for each
-/// packet, as `packets` lists it.
+/// Writes what only one of two recordings of TM transfer frames delivers, by virtual channel,
+/// recording, APID and place: a line for each run of packets, as in
+/// `< vc 0 apid 100 counts 193..199 packets 7`, or where `each` is true for each packet, as
+/// `packets` lists it. The mark `<` is of the first recording, and `>` of the second. In a run each
+/// packet is its recording's next one of the APID, and has the next sequence count.
 pub fn write_difference_tm<S: BuildHasher + Copy, W: Write>(
     compared: &Compared<S>,
     each: bool,
@@ -161,8 +165,9 @@ pub fn write_difference_tm<S: BuildHasher + Copy, W: Write>(
 }
 
 /// Writes what only one of two recordings of TC transfer frames delivers, by virtual channel and
-/// MAP, APID and place (docs/compare.md): a line for each run of packets, or where `each` is true for
-/// each packet, as `packets` lists it.
+/// MAP, recording, APID and place: a line for each run of packets, as in
+/// `> vc 1 map 2 apid 1 counts 16380..3 packets 8`, or where `each` is true for each packet, as
+/// `packets` lists it. Marks and runs are those of [`write_difference_tm`].
 pub fn write_difference_tc<S: BuildHasher + Copy, W: Write>(
     compared: &Compared<S>,
     each: bool,
@@ -202,7 +207,8 @@ fn compare<D: Deliverer, F: Framer + Drop, A: Read, B: Read, S: BuildHasher + Co
         other.new (packets_by_channel (D.kind one_managed.now))
         (packets_by_channel (D.kind other_managed.now))
         (recording_counts (counts_in (D.kind one_managed.now)) (D.kind one_managed.now).frames_of)
-        (recording_counts (counts_in (D.kind other_managed.now)) (D.kind other_managed.now).frames_of)
+        (recording_counts (counts_in (D.kind other_managed.now))
+        (D.kind other_managed.now).frames_of)
         one_managed.now.max_octets other_managed.now.max_octets) }
     ensures fault { IfErr result (λ fault. (StopsReading A.remaining one.old one.new
         one_managed.now.max_octets chunk_size fault
@@ -214,7 +220,8 @@ fn compare<D: Deliverer, F: Framer + Drop, A: Read, B: Read, S: BuildHasher + Co
         → MayRefuseMemoryAtSome A.remaining one.old one.new (D.kind one_managed.now).frames_of
         (MayRefuseStoreMemory (D.kind one_managed.now) (D.is_incomplete_at_last one_managed.now))
         ⊎ MayRefuseMemoryAtSome B.remaining other.old other.new (D.kind other_managed.now).frames_of
-        (MayRefuseStoreMemory (D.kind other_managed.now) (D.is_incomplete_at_last other_managed.now))) }
+        (MayRefuseStoreMemory (D.kind other_managed.now)
+        (D.is_incomplete_at_last other_managed.now))) }
 {
     let mut buffer = [0; CHUNK_SIZE];
     let mut first = Recording::<D, F>::begin(alloc, one_managed, framers.0);

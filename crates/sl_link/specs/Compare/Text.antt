@@ -38,7 +38,8 @@ left_text each station name left =
     then flat_map (λ (one : Placed). mark station ++ packet_line name one.packet) left
     else flat_map (run_line station name) (runs_of left)
 
--- what only one of two recordings delivers on a channel, which `name` names: first what only the first has, then what only the second has
+-- what only one of two recordings delivers on a channel, which `name` names: first what only the first has, then what
+-- only the second has
 abbrev pub channel_text : Bool → (ℕ → List ℕ) → ByChannel → ByChannel → ℕ → List ℕ
 channel_text each name firsts seconds channel =
     left_text each First (name channel) (by_apid (left_in (firsts channel) (seconds channel)))

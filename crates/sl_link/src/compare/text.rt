@@ -5,7 +5,7 @@ ghost use Rattle.sl_pair.specs.Placed.{left_in};
 ghost use Rattle.sl_pair.specs.Runs.{by_apid};
 ghost use Rattle.sl_link.specs.Compare.Text.{channel_text, counts_text, difference_text, left_text};
 ghost use Rattle.sl_link.specs.Compare.Text.{mark, run_line, run_text};
-ghost use Rattle.sl_link.specs.Io.Lines.{HasRoom, HasRoomFor, fields_width};
+ghost use Rattle.sl_link.specs.Io.Lines.{HasRoom, HasRoomFor, fields_width, line_width};
 ghost use Rattle.sl_link.specs.Io.Output.{Adds, KeepsWriter};
 ghost use Rattle.sl_link.specs.Io.Streams.{StopsWriting, WritesText};
 ghost use Rattle.sl_link.specs.Verbs.Packets.Line.{packet_line};
@@ -58,7 +58,8 @@ fn write_channels<S: BuildHasher + Copy, W: Write>(
         out.new.writer.now (difference_text each (channel_name names) firsts seconds channels)) }
     ensures fault { IfErr result (λ fault. (firsts seconds : ByChannel)
         → StandsAfter left.now firsts seconds → StopsWriting W.contents out.old.writer.now
-        out.new.writer.now (difference_text each (channel_name names) firsts seconds channels) ⊤ fault) }
+        out.new.writer.now (difference_text each (channel_name names) firsts seconds channels) ⊤
+        fault) }
 {
     for channel in 0..channels {
         write_channel(out, left, names, channel, each)?;
@@ -214,7 +215,7 @@ fn push_mark(lines: &mut Lines, station: Station)
 }
 
 fn push_run_text(lines: &mut Lines, apid: u16, first: u16, last: u16, packets: u64)
-    requires { HasRoomFor 200 lines.old }
+    requires { HasRoomFor line_width lines.old }
     ensures { lines.new ≡ lines.old ++ run_text apid first last packets }
 {
     lines.push(b" apid ");

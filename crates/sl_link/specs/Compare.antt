@@ -1,7 +1,10 @@
 -- Which packets only one of two recordings has.
 pub mod Lost
+pub mod Signs
+pub mod Summarised
 pub mod Text
 pub mod Turns
+pub mod Words
 use Rattle.std.specs.Prelude.{◌≡◌, ◌≤◌, ◌↔◌, ℕ, List, [], length, Option}
 use Rattle.std.specs.List.{slice_index_or}
 use Rattle.sl_io.specs.declared.counted.Counted.{Counted}
@@ -9,8 +12,8 @@ use Rattle.std.specs.declared.hash.BuildHasher as builder
 use Rattle.std.specs.declared.hash.Hasher as hasher
 use Rattle.sl_link.specs.Io.Streams.{Reads, ReadsAll}
 use Rattle.sl_link.specs.Link.Counted.{faults_of}
-use Rattle.sl_link.specs.Link.Totals.{Counts}
 use Rattle.sl_link.specs.declared.compare.Compared.{Compared}
+use Rattle.sl_link.specs.declared.compare.summary.Summary.{Summary}
 use Rattle.sl_pair.specs.Pairing.{ByChannel, NothingIsLeft, StandsAfter}
 use Rattle.sl_pair.specs.declared.pairing.Answer.TheVariants.{Same, Different}
 
@@ -26,18 +29,18 @@ pub record ReadsBeginning {R : Type 0} (remaining : R → Option (List ℕ)) (ol
   pub no_fault : faults_of new ≡ faults_of old
 
 module _ {A B : Type 0} (remaining : A → Option (List ℕ)) (others : B → Option (List ℕ)) where
-  -- Both recordings were read to their ends. The answer is that both have the same packets exactly where they deliver
+  -- Both recordings were read to their ends, and these are their numbers. The answer is that both have the same packets exactly where they deliver
   -- the same lists, and that they differ exactly where one of them has a packet that the other one hasn't. What is left
   -- are the packets that only one of them has.
   pub record Compares {S T : Type 0} {b : builder.Ghosts S T} {h : hasher.Ghosts T} (one one' : Counted A)
-      (other other' : Counted B) (packets packets' : List ℕ → List (List (List ℕ))) (counts counts' : List ℕ → Counts)
+      (other other' : Counted B) (packets packets' : List ℕ → List (List (List ℕ))) (summary summary' : List ℕ → Summary)
       (limit limit' : ℕ) (compared : Compared S T b h) : Type 0 where
     pub first : List ℕ
     pub second : List ℕ
     pub first_read : ReadsAll remaining one one' limit first
     pub second_read : ReadsAll others other other' limit' second
-    pub first_counts : compared.first ≡ counts first
-    pub second_counts : compared.second ≡ counts' second
+    pub first_summary : compared.first ≡ summary first
+    pub second_summary : compared.second ≡ summary' second
     pub left : StandsAfter compared.left (by_channel (packets first)) (by_channel (packets' second))
     pub same : (compared.answer ≡ Same) ↔ (packets first ≡ packets' second)
     pub different : (compared.answer ≡ Different)

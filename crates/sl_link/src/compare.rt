@@ -3,26 +3,30 @@ ghost use Rattle.std.specs.Prelude.{◌≡◌, ◌⊎◌, ◌<◌, ◌-◌, [], 
 ghost use Rattle.sl_tcframe.specs.TcDelimited.{tc_frames_of};
 ghost use Rattle.sl_tmframe.specs.TmDelimited.{tm_frames_of};
 ghost use Rattle.sl_link.specs.Compare.{Compares, ReadsBeginning};
+ghost use Rattle.sl_link.specs.Compare.Signs.{signs_by};
+ghost use Rattle.sl_link.specs.Compare.Summarised.{recording_summary, summary_in, tc_summary, tm_summary};
 ghost use Rattle.sl_link.specs.Compare.Text.{difference_text};
 ghost use Rattle.sl_pair.specs.Pairing.{ByChannel, StandsAfter};
 ghost use Rattle.sl_link.specs.Verbs.Packets.Tc.{tc_channel_name};
 ghost use Rattle.sl_link.specs.Verbs.Packets.Tm.{tm_channel_name};
 ghost use Rattle.sl_link.specs.Io.Streams.{StopsReading, StopsWriting, WritesText};
-ghost use Rattle.sl_link.specs.Kind.Delivery.{MayRefuseStoreMemory, counts_in, packets_by_channel};
-ghost use Rattle.sl_link.specs.Kind.Tc.{MayRefuseStoreMemoryTc, tc_counts, tc_packets};
-ghost use Rattle.sl_link.specs.Kind.Tm.{MayRefuseStoreMemoryTm, tm_counts, tm_packets};
+ghost use Rattle.sl_link.specs.Kind.Delivery.{MayRefuseStoreMemory, packets_by_channel};
+ghost use Rattle.sl_link.specs.Kind.Tc.{MayRefuseStoreMemoryTc, tc_packets};
+ghost use Rattle.sl_link.specs.Kind.Tm.{MayRefuseStoreMemoryTm, tm_packets};
 ghost use Rattle.sl_link.specs.Link.Managed.{Parameters, tc_format};
-ghost use Rattle.sl_link.specs.Tally.{recording_counts};
+ghost use Rattle.sl_link.specs.Verbs.Check.Lines.{anomalies_by};
 ghost use Rattle.sl_link.specs.Framing.{MayRefuseMemoryAtSome, chunk_size};
 
+mod signs;
+mod summary;
 mod text;
 mod turns;
+mod words;
 
 use crate::framing::{CHUNK_SIZE, Framer};
-use crate::kind::Deliverer;
 use crate::link::managed::Managed;
-use crate::link::totals::Totals;
 use crate::verbs::packets::printer::ChannelKind;
+pub use signs::Signs;
 use sl_io::{Counted, LinkFault};
 use sl_pair::{Answer, Pairing, Station};
 use sl_tcflow::Receiver;
@@ -32,18 +36,21 @@ use sl_tmframe::TmFramer;
 use std::alloc::Global;
 use std::hash::BuildHasher;
 use std::io::{Read, Write};
+use summary::Summarised;
+pub use summary::Summary;
 use text::write_left;
 use turns::{Recording, read_turn};
+pub use words::{CheckWord, WordCounts};
 
 /// How two recordings compare.
 #[derive(Drop)]
 pub struct Compared<S: BuildHasher + Copy> {
     /// Whether both deliver the same packets.
     pub answer: Answer,
-    /// What was counted in the first recording.
-    pub first: Totals,
-    /// What was counted in the second recording.
-    pub second: Totals,
+    /// The numbers of the first recording.
+    pub first: Summary,
+    /// The numbers of the second recording.
+    pub second: Summary,
     /// What is left of both: the packets that only one of them delivers.
     pub left: Pairing<S>,
 }
@@ -62,7 +69,7 @@ pub fn compare_tm<A: Read, B: Read, S: BuildHasher + Copy>(
     // Both recordings are read to their ends, and their packets are compared.
     ensures compared { IfOk result (Compares A.remaining B.remaining one.old one.new other.old
         other.new (tm_packets one_managed.now) (tm_packets other_managed.now)
-        (tm_counts one_managed.now) (tm_counts other_managed.now)
+        (tm_summary one_managed.now) (tm_summary other_managed.now)
         one_managed.now.max_octets other_managed.now.max_octets) }
     // A fault has its cause at one of the recordings, and the beginning of the other one was read.
     ensures fault { IfErr result (λ fault. (StopsReading A.remaining one.old one.new
@@ -108,7 +115,7 @@ pub fn compare_tc<A: Read, B: Read, S: BuildHasher + Copy>(
     // Both recordings are read to their ends, and their packets are compared.
     ensures compared { IfOk result (Compares A.remaining B.remaining one.old one.new other.old
         other.new (tc_packets one_managed.now) (tc_packets other_managed.now)
-        (tc_counts one_managed.now) (tc_counts other_managed.now)
+        (tc_summary one_managed.now) (tc_summary other_managed.now)
         one_managed.now.max_octets other_managed.now.max_octets) }
     // A fault has its cause at one of the recordings, and the beginning of the other one was read.
     ensures fault { IfErr result (λ fault. (StopsReading A.remaining one.old one.new
@@ -190,7 +197,7 @@ pub fn write_difference_tc<S: BuildHasher + Copy, W: Write>(
 // Reads two recordings to their ends, in turns, and answers which packets only one of them
 // delivers. The recording with fewer packets so far is read next: what waits for a counterpart is
 // then what differs.
-fn compare<D: Deliverer, F: Framer + Drop, A: Read, B: Read, S: BuildHasher + Copy>(
+fn compare<D: Summarised, F: Framer + Drop, A: Read, B: Read, S: BuildHasher + Copy>(
     alloc: Global,
     hasher: S,
     framers: (F, F),
@@ -206,9 +213,14 @@ fn compare<D: Deliverer, F: Framer + Drop, A: Read, B: Read, S: BuildHasher + Co
     ensures compared { IfOk result (Compares A.remaining B.remaining one.old one.new other.old
         other.new (packets_by_channel (D.kind one_managed.now))
         (packets_by_channel (D.kind other_managed.now))
-        (recording_counts (counts_in (D.kind one_managed.now)) (D.kind one_managed.now).frames_of)
-        (recording_counts (counts_in (D.kind other_managed.now))
-        (D.kind other_managed.now).frames_of)
+        (recording_summary (summary_in (D.kind one_managed.now)
+        (anomalies_by D.lines_of (D.found one_managed.now)) (D.open_at one_managed.now)
+        (signs_by (D.is_own one_managed.now) (D.is_long one_managed.now)
+        (D.begun one_managed.now))) (D.kind one_managed.now).frames_of)
+        (recording_summary (summary_in (D.kind other_managed.now)
+        (anomalies_by D.lines_of (D.found other_managed.now)) (D.open_at other_managed.now)
+        (signs_by (D.is_own other_managed.now) (D.is_long other_managed.now)
+        (D.begun other_managed.now))) (D.kind other_managed.now).frames_of)
         one_managed.now.max_octets other_managed.now.max_octets) }
     ensures fault { IfErr result (λ fault. (StopsReading A.remaining one.old one.new
         one_managed.now.max_octets chunk_size fault
@@ -249,15 +261,15 @@ fn compare<D: Deliverer, F: Framer + Drop, A: Read, B: Read, S: BuildHasher + Co
     }
     Ok(Compared {
         answer: pairing.answer(),
-        first: first.totals(),
-        second: second.totals(),
+        first: first.summary(),
+        second: second.summary(),
         left: pairing,
     })
 }
 
 // Whose recording is read next, unless both were read to their ends: the one with fewer packets so
 // far.
-fn next_turn<D: Deliverer, F: Framer + Drop>(
+fn next_turn<D: Summarised, F: Framer + Drop>(
     first: &Recording<D, F>,
     second: &Recording<D, F>,
 ) -> Option<Station>

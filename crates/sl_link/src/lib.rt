@@ -36,12 +36,16 @@ mod same;
 mod tally;
 mod verbs;
 
-pub use compare::{Compared, compare_tc, compare_tm, write_difference_tc, write_difference_tm};
+pub use compare::{
+    CheckWord, Compared, Signs, Summary, WordCounts, compare_tc, compare_tm, write_difference_tc,
+    write_difference_tm,
+};
 pub use engine::{Engine, RecordingKind, VerbName, run_engine};
 pub use link::managed::{Managed, ManagedFault};
 pub use link::totals::Totals;
 pub use listings::{check_tc, check_tm, packets_tc, packets_tm, show_tc, show_tm};
 pub use normalise::{normalise_tc, normalise_tm};
+pub use program::command_line::{RefusedParameter, link_options, managed_of_options};
 pub use program::run;
 pub use same::{
     same_packets_in_memory_tc, same_packets_in_memory_tm, same_packets_tc, same_packets_tm,

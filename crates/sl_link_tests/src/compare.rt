@@ -36,7 +36,10 @@ fn number_left(compared: &Compared<Hasher>, station: Station) -> Result<usize, A
 fn outcome(compared: &Compared<Hasher>) -> Result<Outcome, Stop> {
     let first = number_left(compared, Station::First)?;
     let second = number_left(compared, Station::Second)?;
-    let packets = (compared.first.packets(), compared.second.packets());
+    let packets = (
+        compared.first.totals.packets(),
+        compared.second.totals.packets(),
+    );
     Ok((compared.answer, (first, second), packets))
 }
 

@@ -274,15 +274,19 @@ with_vcs (Ok p) None starts = Err refused.Plain
 with_vcs (Ok p) (Some plain) None = Err refused.Start
 with_vcs (Ok p) (Some plain) (Some starts) = Ok (record p { starts = starts; plain = plain })
 
--- a verb with these arguments asks for this
-pub record Asks (verb : Text) (rows : List Row) (asked : Asked) : Type 0 where
-  pub verb_is : asked.verb ≡ verb_named verb
-  pub kind_is : asked.kind ≡ kind_in rows
+-- the options of a link in these arguments give these managed parameters, or which of them is refused first
+pub record Gives (rows : List Row) (managed : Result Parameters RefusedParameter) : Type 0 where
   pub plain : Option (List ℕ)
   pub is_plain : IsPlain (plain_in rows) plain
   pub starts : Option (List ℕ)
   pub are_from : AreFrom (number_in 255 (codes "vr") rows) (starts_in rows) starts
-  pub managed_is : asked.managed ≡ with_vcs (managed_of (parameters_in rows)) plain starts
+  pub managed_is : managed ≡ with_vcs (managed_of (parameters_in rows)) plain starts
+
+-- a verb with these arguments asks for this
+pub record Asks (verb : Text) (rows : List Row) (asked : Asked) : Type 0 where
+  pub verb_is : asked.verb ≡ verb_named verb
+  pub kind_is : asked.kind ≡ kind_in rows
+  pub given : Gives rows asked.managed
 
 -- ---- what becomes of the words
 

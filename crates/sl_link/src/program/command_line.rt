@@ -3,7 +3,7 @@ ghost use Rattle.std.specs.Prelude.{◌≡◌, ◌⊎◌, false, map, option_map
 ghost use Rattle.clap.specs.Words.{app_of, found_of, kind_of, new_app, rows_of, rule_of, with_subcommand};
 ghost use Rattle.clap.specs.declared.builder.Command.TheViews.{out-Command as fields_of};
 ghost use Rattle.sl_link.specs.Link.Managed.{managed_of};
-ghost use Rattle.sl_link.specs.Program.CommandLine.{AreFrom, AskFor, Asks, IsPlain, IsRefusal, IsSllink, flag_rule};
+ghost use Rattle.sl_link.specs.Program.CommandLine.{AreFrom, AskFor, Asks, Gives, IsPlain, IsRefusal, IsSllink, flag_rule};
 ghost use Rattle.sl_link.specs.Program.CommandLine.{is_set, kind_named, link_options, needed, number_in};
 ghost use Rattle.sl_link.specs.Program.CommandLine.{parameters_in, text_rule, top_app, verb_named, with_arguments};
 ghost use Rattle.sl_link.specs.Program.CommandLine.{with_default, with_link_options, with_numbers, with_vcs};
@@ -29,7 +29,7 @@ pub(crate) struct Asked {
 
 /// Which parameter of the link is refused.
 #[derive(Clone, Copy, Debug, PartialEq, Eq, Error)]
-pub(crate) enum RefusedParameter {
+pub enum RefusedParameter {
     /// A managed parameter.
     #[error("{0}")]
     Managed(ManagedFault),
@@ -190,8 +190,8 @@ fn with_options<'a>(alloc: Global, verb: Command<'a>) -> Result<Command<'a>, All
     verb.args(link_options(alloc)?)
 }
 
-// The options of the link.
-fn link_options<'a>(alloc: Global) -> Result<Vec<Arg<'a>>, AllocError>
+/// The options of a link, which `sllink` takes with each verb.
+pub fn link_options<'a>(alloc: Global) -> Result<Vec<Arg<'a>>, AllocError>
     ensures { IfOk result (λ options. map rule_of options.items ≡ link_options) }
 {
     let byte = value_parser!(u8);
@@ -259,19 +259,28 @@ fn flag_option<'a>(alloc: Global, name: &'a str, help: &'a str) -> Arg<'a>
         .action(ArgAction::SetTrue)
 }
 
-// What a verb with these arguments asks for. The parameters of `managed_in` have the V(R) of `--vr`
-// on each virtual channel, as `Managed::new` wants one; `with_vcs` puts `starts` in its place.
+// What a verb with these arguments asks for.
 fn asked_of(verb: &str, matches: &ArgMatches<'_>) -> Asked
     ensures { Asks verb.now (rows_of (found_of matches.now)) result }
+{
+    Asked {
+        verb: verb_named(verb),
+        kind: kind_named(matches.get_str(KIND)),
+        managed: managed_of_options(matches),
+    }
+}
+
+/// The managed parameters that the options of a link give, or which of them is refused first.
+/// `matches` are those of a command that takes [`link_options`]. The parameters of `managed_in` have
+/// the V(R) of `--vr` on each virtual channel, as `Managed::new` wants one; `with_vcs` puts `starts`
+/// in its place.
+pub fn managed_of_options(matches: &ArgMatches<'_>) -> Result<Managed, RefusedParameter>
+    ensures { Gives (rows_of (found_of matches.now)) result }
 {
     let vr = number_of_8_bits(matches, VR);
     let plain = plain_of(matches.get_str(PLAIN));
     let starts = initial_vrs(vr, matches.get_str(VR_OF));
-    Asked {
-        verb: verb_named(verb),
-        kind: kind_named(matches.get_str(KIND)),
-        managed: with_vcs(managed_in(matches), plain, starts),
-    }
+    with_vcs(managed_in(matches), plain, starts)
 }
 
 // The verb of this name. Words with a verb that is none of the four are refused, so the last one

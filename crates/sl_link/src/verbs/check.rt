@@ -8,7 +8,7 @@ ghost use Rattle.sl_link.specs.Verbs.Check.Checking.{HasChecked};
 ghost use Rattle.sl_link.specs.Verbs.Check.Lines.{anomalies_by};
 ghost use Rattle.sl_link.specs.Verbs.Listing.{Frames};
 
-mod checked;
+pub mod checked;
 mod discard;
 mod lines;
 mod lines_tc;

@@ -15,9 +15,14 @@ use Rattle.sl_link.specs.Io.Streams.{IsRead, ReadsAll}
 use Rattle.sl_link.specs.Link.Managed.{Parameters}
 use Rattle.sl_link.specs.Compare.{ReadsBeginning, by_channel}
 use Rattle.sl_link.specs.Compare.Turns.{left_to_read, packets_on}
-use Rattle.sl_link.specs.Kind.Delivery.{AddsByChannel, HasDelivered, Kind, counts_in, delivered_packets}
+use Rattle.sl_link.specs.Compare.Summarised.{HasSummed, recording_summary}
+use Rattle.sl_link.specs.Compare.Words.{word_counts}
+use Rattle.sl_link.specs.Kind.Delivery.{AddsByChannel, Kind, delivered_packets}
 use Rattle.sl_link.specs.Link.Totals.{Counts}
-use Rattle.sl_link.specs.Tally.{counts_with_remainder, no_counts, recording_counts}
+use Rattle.sl_link.specs.Tally.{no_counts}
+use Rattle.sl_link.specs.declared.compare.signs.Signs.{Signs}
+use Rattle.sl_link.specs.declared.compare.summary.Summary.{Summary}
+use Rattle.sl_link.specs.declared.compare.words.WordCounts.{WordCounts}
 use Rattle.sl_link.proofs.lemmas.Framing.Reading.{passing_none}
 use Rattle.sl_link.proofs.lemmas.Kind.Delivery.{none_delivered}
 
@@ -44,17 +49,21 @@ module _ (k : Kind) (laws : AddsByChannel k) where
         ∙ sym (get_or-eq_default (delivered_packets k frames) [] (rw laws.all (simp (length-map, length-range_with_len) (omega (arith, past)))))
   ]
 
-  -- the totals
-  pub counts_whole : {had : List (List ℕ) → Type 0} {frames : List (List ℕ)} {counts : Counts} {n : ℕ} {octets : List ℕ} → HasDelivered k had frames 0 counts → k.frames_of octets ≡ frames → n ≡ length octets
-      → counts_with_remainder counts (n - counts.octets) 0 ≡ recording_counts (counts_in k) k.frames_of octets
-  counts_whole d is size = rw (d.counts, is, size) refl
+-- the numbers of a recording, by its frames
+pub summary_whole : (summary_of : List (List ℕ) → ℕ → Summary) (frames_of : List ℕ → List (List ℕ)) {frames : List (List ℕ)} {n : ℕ} {octets : List ℕ} → frames_of octets ≡ frames → n ≡ length octets
+    → summary_of frames (n - length (concat frames)) ≡ recording_summary summary_of frames_of octets
+summary_whole summary_of frames_of is size = rw (is, size) refl
 
 -- nothing was read yet,
-pub none_read : {R F : Type 0} {remaining : R → Option (List ℕ)} {is_frame : Parameters → List ℕ → Type 0} {waits : F → Parameters → List ℕ → Type 0} {frames_of : Parameters → List ℕ → List (List ℕ)} (k : Kind) {had : List (List ℕ) → Type 0} {counts : Counts}
-    {p : Parameters} {framer framer' : F} {reader : Counted R} {limit n : ℕ} → AddsByChannel k → framer' ≡ framer → waits framer p [] → frames_of p [] ≡ [] → had [] → counts ≡ no_counts → n ≡ 0
-    → HasPassed remaining reader reader limit n (HasCutAll is_frame waits frames_of (λ frames. HasDelivered k had frames 0 counts) p framer') []
-none_read k laws same waiting none processed counted is =
-    rw is (passing_none (record { cut = record { frames = []; rest = []; waiting = rw same waiting; parts = refl; whole = tt; done = rw counted (none_delivered k laws processed) }; all = none }))
+pub none_summed : (k : Kind) {anomalies_at : List (List ℕ) → List ℕ → List (List ℕ)} {had : List (List ℕ) → Type 0} {signs_of : List (List ℕ) → Signs} {counts : Counts} {words : WordCounts} {signs : Signs}
+    → AddsByChannel k → had [] → counts ≡ no_counts → words ≡ word_counts [] → signs ≡ signs_of [] → HasSummed k anomalies_at had signs_of counts words signs []
+none_summed k laws processed counted worded signed = record { delivered = rw counted (none_delivered k laws processed); words = worded; signs = signed }
+
+pub none_read : {R F : Type 0} {remaining : R → Option (List ℕ)} {is_frame : Parameters → List ℕ → Type 0} {waits : F → Parameters → List ℕ → Type 0} {frames_of : Parameters → List ℕ → List (List ℕ)} {counted : List (List ℕ) → Type 0}
+    {p : Parameters} {framer framer' : F} {reader : Counted R} {limit n : ℕ} → framer' ≡ framer → waits framer p [] → frames_of p [] ≡ [] → counted [] → n ≡ 0
+    → HasPassed remaining reader reader limit n (HasCutAll is_frame waits frames_of counted p framer') []
+none_read same waiting none done is =
+    rw is (passing_none (record { cut = record { frames = []; rest = []; waiting = rw same waiting; parts = refl; whole = tt; done = done }; all = none }))
 
 -- and no packet came
 pub none_on : (k : Kind) → AddsByChannel k → k.frames_of [] ≡ [] → (channel : ℕ) → [] ≡ packets_on k (k.frames_of []) channel
@@ -64,8 +73,8 @@ none_on k laws none channel = sym (ap (λ frames. packets_on k frames channel) n
 pub same_lengths : (k k' : Kind) → k.channels ≡ k'.channels → (frames others : List (List ℕ)) → length (delivered_packets k frames) ≡ length (delivered_packets k' others)
 same_lengths k k' same frames others = simp (length-map, same)
 
-module _ {R F : Type 0} {remaining : R → Option (List ℕ)} {is_frame : Parameters → List ℕ → Type 0} {waits : F → Parameters → List ℕ → Type 0} {frames_of : Parameters → List ℕ → List (List ℕ)} {k : Kind} {had : List (List ℕ) → Type 0} {counts : Counts}
-    {p : Parameters} {framer : F} {begun reader : Counted R} {limit n : ℕ} {octets : List ℕ} (s : HasPassed remaining begun reader limit n (HasCutAll is_frame waits frames_of (λ frames. HasDelivered k had frames 0 counts) p framer) octets) where
+module _ {R F : Type 0} {remaining : R → Option (List ℕ)} {is_frame : Parameters → List ℕ → Type 0} {waits : F → Parameters → List ℕ → Type 0} {frames_of : Parameters → List ℕ → List (List ℕ)} {counted : List (List ℕ) → Type 0}
+    {p : Parameters} {framer : F} {begun reader : Counted R} {limit n : ℕ} {octets : List ℕ} (s : HasPassed remaining begun reader limit n (HasCutAll is_frame waits frames_of counted p framer) octets) where
   -- what was read so far is its beginning,
   pub beginning : ReadsBeginning remaining begun reader limit
   beginning = record { octets = octets; within = omega (arith, s.size, s.allowed); read = s.read; no_fault = s.no_fault }
@@ -75,11 +84,8 @@ module _ {R F : Type 0} {remaining : R → Option (List ℕ)} {is_frame : Parame
   read_whole end = record { within = omega (arith, s.size, s.allowed); read = s.read; to_end = end; no_fault = s.no_fault }
 
   -- the frames have no more octets than were read
-  pub inside_octets : counts.octets ≤ n
-  inside_octets = rw s.all.cut.done.counts (omega (arith, s.size, ap length s.all.cut.parts, length-append (concat s.all.cut.frames) (s.all.cut.rest ++ [])))
-
-  pub no_anomalies : counts.anomalies ≡ 0
-  no_anomalies = ap (λ (c : Counts). c.anomalies) s.all.cut.done.counts
+  pub inside_octets : length (concat s.all.cut.frames) ≤ n
+  inside_octets = omega (arith, s.size, ap length s.all.cut.parts, length-append (concat s.all.cut.frames) (s.all.cut.rest ++ []))
 
 -- lists of as many channels are the same exactly where each channel's are
 pub same_lists : {P : Type 0} (lists others : List (List (List ℕ))) → length lists ≡ length others → (P ↔ HaveSame (by_channel lists) (by_channel others)) → P ↔ (lists ≡ others)

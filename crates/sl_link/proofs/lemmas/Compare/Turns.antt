@@ -67,8 +67,8 @@ module _ {S T : Type 0} {b : builder.Ghosts S T} {h : hasher.Ghosts T} where
 
   module _ {k : Kind} {n : ℕ} {old : Pairing S T b h} where
     -- before a turn
-    pub turn_begins : {had : List (List ℕ) → Type 0} {counts : Counts} {frames : List (List ℕ)} → HasDelivered k had frames 0 counts → n ≡ length frames
-        → GoesOn k had n old old counts frames
+    pub turn_begins : {counted : List (List ℕ) → Type 0} {frames : List (List ℕ)} → counted frames → n ≡ length frames
+        → GoesOn k counted n old old frames
     turn_begins {frames = frames} d is = record {
       delivered = d;
       some = omega (arith, is);
@@ -77,9 +77,9 @@ module _ {S T : Type 0} {b : builder.Ghosts S T} {h : hasher.Ghosts T} where
     }
 
     -- one frame more
-    pub turn_goes_on : {had had' : List (List ℕ) → Type 0} {mid new : Pairing S T b h} {counts counts' : Counts} (before : List (List ℕ)) (frame : List ℕ) → AddsByChannel k
-        → GoesOn k had n old mid counts before → HasDelivered k had' (before ++ frame ∷ []) 0 counts' → TakesAll TakesPacket mid (k.channel frame) (without_idle (k.ended before frame)) new
-        → GoesOn k had' n old new counts' (before ++ frame ∷ [])
+    pub turn_goes_on : {counted counted' : List (List ℕ) → Type 0} {mid new : Pairing S T b h} (before : List (List ℕ)) (frame : List ℕ) → AddsByChannel k
+        → GoesOn k counted n old mid before → counted' (before ++ frame ∷ []) → TakesAll TakesPacket mid (k.channel frame) (without_idle (k.ended before frame)) new
+        → GoesOn k counted' n old new (before ++ frame ∷ [])
     turn_goes_on {mid = mid} {new = new} before frame laws g d t =
         let took = takes_all (without_idle (k.ended before frame)) mid new (k.channel frame) t in
         let same : (c : ℕ) → with_more (packets_on k before) (k.channel frame) (without_idle (k.ended before frame)) c ≡ packets_on k (before ++ frame ∷ []) c
@@ -94,11 +94,11 @@ module _ {S T : Type 0} {b : builder.Ghosts S T} {h : hasher.Ghosts T} where
         }
 
 -- how many frames were counted
-pub frames_counted : {k : Kind} {had : List (List ℕ) → Type 0} {frames : List (List ℕ)} {counts : Counts} → HasDelivered k had frames 0 counts → counts.frames ≡ length frames
+pub frames_counted : {k : Kind} {had : List (List ℕ) → Type 0} {frames : List (List ℕ)} {anomalies : ℕ} {counts : Counts} → HasDelivered k had frames anomalies counts → counts.frames ≡ length frames
 frames_counted d = ap (λ (c : Counts). c.frames) d.counts
 
 -- the frames of a turn: `own` were there before it, and `own'` are all after it
-pub turn_ends : {S T : Type 0} {b : builder.Ghosts S T} {h : hasher.Ghosts T} {k : Kind} {n : ℕ} {had : List (List ℕ) → Type 0} (old : Pairing S T b h) {mid new : Pairing S T b h} {counts : Counts} {frames : List (List ℕ)} (station : Station) (own own' : List (List ℕ)) → GoesOn k had n mid new counts frames
+pub turn_ends : {S T : Type 0} {b : builder.Ghosts S T} {h : hasher.Ghosts T} {k : Kind} {n : ℕ} {counted : List (List ℕ) → Type 0} (old : Pairing S T b h) {mid new : Pairing S T b h} {frames : List (List ℕ)} (station : Station) (own own' : List (List ℕ)) → GoesOn k counted n mid new frames
     → turn_of mid ≡ station → ((firsts seconds : ByChannel) → StandsAfter old firsts seconds → StandsAfter mid firsts seconds) → take n frames ≡ own → frames ≡ own'
     → (others : ByChannel) → in_order station (StandsAfter old) (packets_on k own) others → in_order station (StandsAfter new) (packets_on k own') others
 turn_ends {k} old {mid = mid} station own own' g turn kept first all others s =

@@ -36,7 +36,7 @@ joined_five p q r s t = rw (t.text, s.text, r.text, q.text, p.text) (simp (appen
 
 -- ---- what is incomplete, while it is added, by the line of each channel
 
-none_in : (line : ℕ → List (List ℕ)) (from n : ℕ) → ((channel : ℕ) → from ≤ channel → channel < from + n → line channel ≡ []) → flat_map line (range_with_len from n) ≡ []
+pub none_in : (line : ℕ → List (List ℕ)) (from n : ℕ) → ((channel : ℕ) → from ≤ channel → channel < from + n → line channel ≡ []) → flat_map line (range_with_len from n) ≡ []
 none_in line from zero none = refl
 none_in line from (suc n) none =
     rw (none from (omega arith) (omega arith)) (none_in line (from + 1) n (λ channel above below. none channel (omega (arith, above)) (omega (arith, below))))
@@ -108,7 +108,7 @@ anomalies_more anomalies_at frames frame number is = grind (arith, length-append
 
 -- the remainder begins at an offset, which is where the frames end
 module _ (k : Kind) (open_at : ℕ → Frames → ℕ → List (List ℕ)) (frames : Frames) (offset octets : ℕ) (ends : offset ≡ length (concat frames)) (inside : length (concat frames) ≤ octets) where
-  end_is : remainder_anomaly offset (octets - offset) ++ flat_map (open_at octets frames) k.channels ≡ end_anomalies k open_at frames (octets - length (concat frames))
+  pub end_is : remainder_anomaly offset (octets - offset) ++ flat_map (open_at octets frames) k.channels ≡ end_anomalies k open_at frames (octets - length (concat frames))
   end_is = grind arith
 
   -- the lines after them: the remainder's, and then those of what is incomplete

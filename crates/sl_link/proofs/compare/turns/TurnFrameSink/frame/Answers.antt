@@ -14,7 +14,7 @@ pub returns-in_err-deliver-clause-fault : goal.returns-in_err-deliver-clause-fau
 returns-in_err-deliver-clause-fault g c =
     passed_up _ _ c.from_residual.ensures.1 (λ start before t.
     let p = c.args.managed.now in
-    let had = t.2.delivered.processed in
+    let had = t.2.delivered.delivered.processed in
     let s = c.in_err-deliver.ensures.fault before had in (
       t.0,
       (
@@ -30,4 +30,4 @@ pub returns-clause-taken : goal.returns-clause-taken
 returns-clause-taken g c = λ start before t.
     let p = c.args.managed.now in
     let d = c.in_ok-deliver.ensures.delivered before t.2.delivered in
-    (t.0, t.1, turn_goes_on before c.args.frame.now (g.met.D.Deliverer.within _ p before t.2.delivered.processed).adds t.2 d.0 d.1)
+    (t.0, t.1, turn_goes_on before c.args.frame.now (g.met.D.Deliverer.within _ p before t.2.delivered.delivered.processed).adds t.2 d.0 d.1)

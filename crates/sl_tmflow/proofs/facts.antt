@@ -3,4 +3,5 @@ pub mod Anomaly
 pub mod Incomplete
 pub mod Loss
 pub mod LossEdge
+pub mod Merge
 pub mod Order

@@ -11,3 +11,5 @@ pub mod Incomplete
 pub mod Loss
 -- the elements of a list, and their places
 pub mod Places
+-- what frames deliver where others stand between them
+pub mod Merge

@@ -10,6 +10,7 @@ pub mod FormModel
 pub mod FormOrder
 pub mod Incomplete
 pub mod Loss
+pub mod Merge
 pub mod NormalForm
 pub mod PacketStart
 pub mod Progress

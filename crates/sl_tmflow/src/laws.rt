@@ -23,6 +23,8 @@ ghost use Rattle.sl_tmflow.specs.Loss.{NoneIsNew, EachIsLeft, RunsAreKept, KeptR
 ghost use Rattle.sl_tmflow.specs.Loss.{TestTellsRun, PacketsAreKept, PacketsAreSublist};
 ghost use Rattle.sl_tmflow.specs.Loss.{HandedOverAreKept, HandedOverAreSublist, RecordedAreKept};
 ghost use Rattle.sl_tmflow.specs.Loss.{RecordedAreSublist};
+ghost use Rattle.sl_tmflow.specs.Merge.{BestBreaksNoRun, BestIsExact, CountsTellNumbers, NoneIsLost};
+ghost use Rattle.sl_tmflow.specs.Merge.{RecordedAreDelivered, WithinIsTransitive};
 ghost use Rattle.sl_tmflow.specs.NormalForm.{EachFillIsLeast, EachPointerIsLeast};
 ghost use Rattle.sl_tmflow.specs.PacketStart.{EachIsStart, EachStartIsListed};
 
@@ -141,6 +143,35 @@ pub fn tm_lost_frames_leave_a_sublist()
     ensures handed_over { HandedOverAreSublist }
     ensures recording_exactly { RecordedAreKept }
     ensures recording { RecordedAreSublist }
+{}
+
+/// Frames stand among more frames, in the same order, and no other frame stands between two of them
+/// whose counts follow. The more frames then deliver all packets that the first ones deliver, in
+/// their order. The same holds of two recordings on a virtual channel, with idle packets left out
+/// on both sides. Nothing else is asked of the counts, and nothing of what was sent.
+///
+/// The clause `again` says that frames which stand so among frames stand so among all that these
+/// stand among: several recordings can be merged one after another.
+pub fn tm_more_frames_deliver_no_less()
+    ensures channel { NoneIsLost }
+    ensures recording { RecordedAreDelivered }
+    ensures again { WithinIsTransitive }
+{}
+
+/// A merged recording has the frames of a whole virtual channel that one recording or another one
+/// has. The frame counts of the whole channel have no gap, and fewer than 256 frames in a row are
+/// lost by both. The merged recording then delivers exactly the packets of the whole channel each
+/// frame of which one or the other has, idle packets left out. Where one recording also lost fewer
+/// than 256 frames in a row, no frame stands between two of its frames whose counts follow.
+pub fn tm_best_of_both_is_exact()
+    ensures exactly { BestIsExact }
+    ensures unbroken { BestBreaksNoRun }
+{}
+
+/// Fewer than 256 frames in a row are lost, of a whole virtual channel without a gap. The counts
+/// then tell the numbers of all kept frames after one whose number is known.
+pub fn tm_counts_tell_numbers()
+    ensures { CountsTellNumbers }
 {}
 
 /// In the normal form the packets of a virtual channel are filled up to whole data fields by the

@@ -197,7 +197,7 @@ packets_are_sublist channel numbers kept left = grind (arith, packets_are_kept, 
 -- ---- recordings
 
 -- the list of a virtual channel
-recorded_on : (format : TmFormat) (spacecraft vc : ℕ) (recording : List ℕ) → vc < 8
+pub recorded_on : (format : TmFormat) (spacecraft vc : ℕ) (recording : List ℕ) → vc < 8
     → recorded_packets format spacecraft vc recording ≡ without_idle (packets_of_channel (recorded_views format spacecraft recording) vc)
 recorded_on format spacecraft vc recording below =
     let here : 0 + vc ≡ vc = omega arith in

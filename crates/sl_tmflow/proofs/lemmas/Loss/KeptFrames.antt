@@ -24,13 +24,13 @@ count_after : (view next : TmView) → is_consecutive view next ≡ true → nex
 count_after view next test = eqb-true next.vc_count ((view.vc_count + 1) % 256) test
 
 -- the counts of frames without a gap count up
-count_later : (view : TmView) (between : List TmView) (next : TmView) (later : List TmView) → AreConsecutive view (between ++ next ∷ later)
+pub count_later : (view : TmView) (between : List TmView) (next : TmView) (later : List TmView) → AreConsecutive view (between ++ next ∷ later)
     → next.vc_count ≡ (view.vc_count + (length between + 1)) % 256
 count_later view [] next later each = count_after view next each.0
 count_later view (second ∷ between) next later each = grind (arith, count_after, count_later second between next later each.1)
 
 -- among frames less than 257 apart, only neighbours are consecutive
-none_between : (view : TmView) (between : List TmView) (next : TmView) (later : List TmView) → AreConsecutive view (between ++ next ∷ later)
+pub none_between : (view : TmView) (between : List TmView) (next : TmView) (later : List TmView) → AreConsecutive view (between ++ next ∷ later)
     → is_consecutive view next ≡ true → length between < 256 → length between ≡ 0
 none_between view between next later each test few = grind (arith, count_after, count_later)
 

@@ -26,6 +26,18 @@ pub begins-whole : (s : CaduShape) (place : Place) (octets : List ℕ) → cadu_
 unfolding cadu_begins
 begins-whole s place octets b = leb-true (needed s) (length octets) (first_true _ _ b)
 
+no_test : (a next b c : Bool) → next ≡ false → b ≡ false → (a && ((next || b) && c)) ≡ false
+no_test true false false c p q = refl
+no_test false next b c p q = refl
+no_test true true b c p q = cc
+no_test true false true c p q = cc
+
+-- no unit begins where none ended and no marker is
+pub unmarked : (s : CaduShape) (place : Place) (octets : List ℕ) → is_next place ≡ false → has_marker s octets ≡ false
+    → cadu_begins s place octets ≡ false
+unfolding cadu_begins
+unmarked s place octets n h = no_test _ (is_next place) _ _ n h
+
 -- the frame is whole or not, whatever comes after the octets that are seen
 whole-seen : (s : CaduShape) (octets more : List ℕ) → seen s ≤ length octets
     → nat_le (needed s) (length (octets ++ more)) ≡ nat_le (needed s) (length octets)

@@ -40,6 +40,16 @@ cltu_begins-more s place octets more h =
     both_same (has_sequence-more s start_sequence octets more (omega arith))
     (ap is_block (drop-append-le 2 octets more (omega arith)) ∙ is_block-more (drop 2 octets) more (omega (arith, length-drop 2 octets)))
 
+no_first : (a b : Bool) → a ≡ false → (a && b) ≡ false
+no_first false b h = refl
+no_first true b h = cc
+
+-- no CLTU begins where no start sequence is
+pub unstarted : (s : CltuShape) (place : Place) (octets : List ℕ) → has_sequence s start_sequence octets ≡ false
+    → cltu_begins s place octets ≡ false
+unfolding cltu_begins
+unstarted s place octets h = no_first _ _ h
+
 -- where a CLTU begins a code block is
 pub cltu_begins-long : (s : CltuShape) (place : Place) (octets : List ℕ) → cltu_begins s place octets ≡ true → 10 ≤ length octets
 unfolding cltu_begins

@@ -1,10 +1,11 @@
 -- Wrong bits of a marker.
-use Rattle.std.proofs.Common.{◌≡◌, ℕ, zero, suc, min, ◌∙◌, ◌+◌, ◌≤◌, ◌<◌, List, [], ◌∷◌, ◌++◌, length, get_or, drop}
+use Rattle.std.proofs.Common.{◌≡◌, ℕ, zero, suc, min, ◌∙◌, ◌+◌, ◌*◌, ◌^◌, ◌≤◌, ◌<◌, List, [], ◌∷◌, ◌++◌, length, get_or, drop}
 use Rattle.std.proofs.Common.{refl, ap, arith, add-one, drop-cons, length-drop}
 use Rattle.std.proofs.lemmas.List.{drop-append-le}
+use Rattle.std.proofs.lemmas.Nat.{ones_cat, xor_block, xor_lt}
 use Rattle.std.proofs.Math.Seq.{drop-nil}
 use Rattle.std.specs.Prelude.{bit_xor, count_ones, nat_le}
-use Rattle.sl_sync.specs.Marker.{Marker, wrong_bits, is_marked}
+use Rattle.sl_sync.specs.Marker.{Marker, front_of, wrong_bits, is_marked}
 
 -- a marker and octets from the i-th on, of which both have one
 pub wrong_bits-at : (marker octets : List ℕ) (i : ℕ) → i < length marker → i < length octets
@@ -44,3 +45,29 @@ pub is_marked-behind : (m : Marker) (n : ℕ) (octets more : List ℕ) → n + l
 is_marked-behind m n octets more h =
     let long : length m.octets ≤ length (drop n octets) = omega (arith, length-drop n octets) in
     ap (λ (s : List ℕ). is_marked m s) (drop-append-le n octets more (omega arith)) ∙ is_marked-more m (drop n octets) more long
+
+-- ---- the first four octets at once
+
+-- the wrong bits of two octets as one number, and of a second number below them
+xor_ones : (k a b c d : ℕ) → c < 2 ^ k → d < 2 ^ k
+    → count_ones (bit_xor (a * 2 ^ k + c) (b * 2 ^ k + d)) ≡ count_ones (bit_xor a b) + count_ones (bit_xor c d)
+xor_ones k a b c d h l = ap count_ones (xor_block k a b c d h l) ∙ ones_cat k (bit_xor a b) (bit_xor c d) (xor_lt k c d h l)
+
+-- as many bits of the first four octets are wrong as of the whole marker, at most
+pub front-few : (marker octets : List ℕ) → 4 ≤ length marker → 4 ≤ length octets
+    → ((k : ℕ) → get_or marker k 0 < 256) → ((k : ℕ) → get_or octets k 0 < 256)
+    → count_ones (bit_xor (front_of marker) (front_of octets)) ≤ wrong_bits marker octets
+unfolding front_of
+front-few (a ∷ b ∷ c ∷ d ∷ m) (e ∷ f ∷ g ∷ h ∷ o) long longer ours theirs =
+    let high = xor_ones 8 a e b f (ours 1) (theirs 1) in
+    let low = xor_ones 8 c g d h (ours 3) (theirs 3) in
+    let both = xor_ones 16 (a * 256 + b) (e * 256 + f) (c * 256 + d) (g * 256 + h) (omega (arith, ours 2, ours 3)) (omega (arith, theirs 2, theirs 3)) in
+    omega (arith, both, high, low)
+front-few [] octets long longer ours theirs = absurd (omega arith)
+front-few (a ∷ []) octets long longer ours theirs = absurd (omega arith)
+front-few (a ∷ b ∷ []) octets long longer ours theirs = absurd (omega arith)
+front-few (a ∷ b ∷ c ∷ []) octets long longer ours theirs = absurd (omega arith)
+front-few (a ∷ b ∷ c ∷ d ∷ m) [] long longer ours theirs = absurd (omega arith)
+front-few (a ∷ b ∷ c ∷ d ∷ m) (e ∷ []) long longer ours theirs = absurd (omega arith)
+front-few (a ∷ b ∷ c ∷ d ∷ m) (e ∷ f ∷ []) long longer ours theirs = absurd (omega arith)
+front-few (a ∷ b ∷ c ∷ d ∷ m) (e ∷ f ∷ g ∷ []) long longer ours theirs = absurd (omega arith)

@@ -1,5 +1,7 @@
 -- Counts of parts.
-use Rattle.std.proofs.Common.{◌≡◌, ℕ, ◌+◌, ◌-◌, Bool, List, [], ◌∷◌, ◌++◌, refl, ◌∙◌, ap, arith}
+use Rattle.std.proofs.Common.{◌≡◌, ℕ, zero, suc, ◌+◌, ◌-◌, ◌*◌, Bool, List, [], ◌∷◌, ◌++◌, refl, ◌∙◌, ap, arith}
+use Rattle.std.proofs.Math.Nat.{suc-mul}
+use Rattle.std.specs.Prelude.{replicate}
 use Rattle.sl_sync.specs.Held.{Holds}
 use Rattle.sl_sync.specs.Totals.{weight, capped, one_if, frame_count, wrong_count, skipped_count, astray_count}
 use Rattle.sl_sync.specs.Totals.{refused_count, cut_count, totals_of, CountsUnit, CountsStray}
@@ -17,6 +19,27 @@ weight-more w (x ∷ parts) part = let h = weight-more w parts part in omega ari
 capped-more : (w : Part → ℕ) (parts : List Part) (part : Part) (n old new : ℕ) → old ≡ capped (weight w parts) → n ≡ w part
     → new ≡ capped (old + n) → new ≡ capped (weight w (parts ++ part ∷ []))
 capped-more w parts part n old new p q r = omega (arith, p, q, r, weight-more w parts part)
+
+-- a number of the same part more
+weight-replicate : (w : Part → ℕ) (count : ℕ) (part : Part) → weight w (replicate count part) ≡ count * w part
+weight-replicate w zero part = omega arith
+weight-replicate w (suc count) part =
+    let h = weight-replicate w count part in omega (arith, h, suc-mul count (w part))
+
+weight-append : (w : Part → ℕ) (xs ys : List Part) → weight w (xs ++ ys) ≡ weight w xs + weight w ys
+weight-append w [] ys = omega arith
+weight-append w (x ∷ xs) ys = let h = weight-append w xs ys in omega arith
+
+capped-some : (w : Part → ℕ) (parts : List Part) (count : ℕ) (part : Part) (n old new : ℕ) → old ≡ capped (weight w parts)
+    → n ≡ count * w part → new ≡ capped (old + n) → new ≡ capped (weight w (parts ++ replicate count part))
+capped-some w parts count part n old new p q r =
+    omega (arith, p, q, r, weight-append w parts (replicate count part), weight-replicate w count part)
+
+capped-none : (w : Part → ℕ) (parts : List Part) (count : ℕ) (part : Part) (old new : ℕ) → old ≡ capped (weight w parts)
+    → w part ≡ 0 → new ≡ old → new ≡ capped (weight w (parts ++ replicate count part))
+capped-none w parts count part old new p q r =
+    let none : count * w part ≡ 0 = omega (arith, ap (λ (n : ℕ). count * n) q) in
+    omega (arith, p, none, r, weight-append w parts (replicate count part), weight-replicate w count part)
 
 -- a count that stays, as the part counts for none
 capped-same : (w : Part → ℕ) (parts : List Part) (part : Part) (old new : ℕ) → old ≡ capped (weight w parts) → w part ≡ 0
@@ -52,16 +75,16 @@ totals-unit {old} {new} {held} parts content size e h n =
     (ap (λ (t : Totals). t.refused_blocks) e) (ap one_if h.refused) n.refused_blocks)
     (capped-more cut_count parts part held.cut old.cut new.cut (ap (λ (t : Totals). t.cut) e) h.cut n.cut)
 
--- the counts of parts with a stray octet more
-pub totals-stray : {old new : Totals} (parts : List Part) (place : Place) → old ≡ totals_of parts → CountsStray old place new
-    → new ≡ totals_of (parts ++ stray place ∷ [])
+-- the counts of parts with a number of stray octets more
+pub totals-stray : {old new : Totals} (parts : List Part) (place : Place) (count : ℕ) → old ≡ totals_of parts
+    → CountsStray old place count new → new ≡ totals_of (parts ++ replicate count (stray place))
 unfolding totals_of
-totals-stray {old} {new} parts place e n =
+totals-stray {old} {new} parts place count e n =
     let part = stray place in
-    same_totals new (totals_of (parts ++ part ∷ []))
-    (capped-same frame_count parts part old.frames new.frames (ap (λ (t : Totals). t.frames) e) refl n.frames)
-    (capped-same wrong_count parts part old.wrong_markers new.wrong_markers (ap (λ (t : Totals). t.wrong_markers) e) refl n.wrong_markers)
-    (capped-more skipped_count parts part 1 old.skipped new.skipped (ap (λ (t : Totals). t.skipped) e) refl n.skipped)
-    (capped-more astray_count parts part (astray_count part) old.astray new.astray (ap (λ (t : Totals). t.astray) e) refl n.astray)
-    (capped-same refused_count parts part old.refused_blocks new.refused_blocks (ap (λ (t : Totals). t.refused_blocks) e) refl n.refused_blocks)
-    (capped-same cut_count parts part old.cut new.cut (ap (λ (t : Totals). t.cut) e) refl n.cut)
+    same_totals new (totals_of (parts ++ replicate count part))
+    (capped-none frame_count parts count part old.frames new.frames (ap (λ (t : Totals). t.frames) e) refl n.frames)
+    (capped-none wrong_count parts count part old.wrong_markers new.wrong_markers (ap (λ (t : Totals). t.wrong_markers) e) refl n.wrong_markers)
+    (capped-some skipped_count parts count part count old.skipped new.skipped (ap (λ (t : Totals). t.skipped) e) (omega arith) n.skipped)
+    (capped-some astray_count parts count part (count * astray_count part) old.astray new.astray (ap (λ (t : Totals). t.astray) e) refl n.astray)
+    (capped-none refused_count parts count part old.refused_blocks new.refused_blocks (ap (λ (t : Totals). t.refused_blocks) e) refl n.refused_blocks)
+    (capped-none cut_count parts count part old.cut new.cut (ap (λ (t : Totals). t.cut) e) refl n.cut)

@@ -1,5 +1,5 @@
 -- What is counted of the parts of a file.
-use Rattle.std.specs.Prelude.{◌≡◌, ℕ, ◌+◌, ◌-◌, ◌^◌, min, Bool, true, false, List, [], ◌∷◌, length}
+use Rattle.std.specs.Prelude.{◌≡◌, ℕ, ◌+◌, ◌-◌, ◌*◌, ◌^◌, min, Bool, true, false, List, [], ◌∷◌, length}
 use Rattle.sl_sync.specs.Units.{Part, unit, stray}
 use Rattle.sl_sync.specs.declared.totals.Totals.{Totals}
 use Rattle.sl_sync.specs.declared.units.Held.{Held}
@@ -72,11 +72,11 @@ pub record CountsUnit (old : Totals) (held : Held) (new : Totals) : Type 0 where
   pub refused_blocks : new.refused_blocks ≡ capped (old.refused_blocks + one_if held.refused)
   pub cut : new.cut ≡ capped (old.cut + held.cut)
 
--- the counts with a stray octet
-pub record CountsStray (old : Totals) (place : Place) (new : Totals) : Type 0 where
+-- the counts with a number of stray octets
+pub record CountsStray (old : Totals) (place : Place) (count : ℕ) (new : Totals) : Type 0 where
   pub frames : new.frames ≡ old.frames
   pub wrong_markers : new.wrong_markers ≡ old.wrong_markers
-  pub skipped : new.skipped ≡ capped (old.skipped + 1)
-  pub astray : new.astray ≡ capped (old.astray + astray_count (stray place))
+  pub skipped : new.skipped ≡ capped (old.skipped + count)
+  pub astray : new.astray ≡ capped (old.astray + count * astray_count (stray place))
   pub refused_blocks : new.refused_blocks ≡ old.refused_blocks
   pub cut : new.cut ≡ old.cut

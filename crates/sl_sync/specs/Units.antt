@@ -1,6 +1,6 @@
 -- A file as its units and the octets between them.
 use Rattle.std.specs.Prelude.{◌≡◌, ℕ, zero, suc, ◌-◌, ◌≤◌, Bool, true, List, [], ◌∷◌, ◌++◌, length}
-use Rattle.std.specs.Prelude.{true, false}
+use Rattle.std.specs.Prelude.{◌<◌, true, false, drop}
 use Rattle.std.specs.List.{concat}
 use Rattle.sl_sync.specs.declared.units.Place.{Place}
 use Rattle.sl_sync.specs.declared.units.Place.TheVariants.{Start, Next}
@@ -58,6 +58,15 @@ text_of (stray place ∷ parts) = text_of parts
 -- the frames of a file, end to end
 abbrev pub frames_text : Rule → List ℕ → List ℕ
 frames_text r file = text_of (parts_of r Start file)
+
+-- No unit begins with this number of octets, the first of which has one place behind it, and so have the others. They are
+-- no more than `most`.
+pub record AreStray (r : Rule) (place : Place) (octets : List ℕ) (most : ℕ) (place' : Place) (count : ℕ) : Type 0 where
+  pub first : place' ≡ r.behind place octets
+  pub some : 1 ≤ count
+  pub inside : count ≤ most
+  pub others : (j : ℕ) → 1 ≤ j → j < count
+      → (r.begins place' (drop j octets) ≡ false) × (place' ≡ r.behind place' (drop j octets))
 
 -- What a rule says of a place is seen in `ahead` octets, whatever comes after them. A unit has an octet or more, and no
 -- more than are seen.

@@ -25,12 +25,12 @@ impl Units for CaduShape {
                 || self.marker.is_at(behind(octets, 2 * stride)))
     }
 
-    #[inline(always)]
-    fn behind_stray(&self, place: Place, octets: &[u8]) -> Place {
+    #[tactic(auto, using(crate::proofs::CaduLemmas::unmarked))]
+    fn stray(&self, place: Place, octets: &[u8], most: usize) -> (Place, usize) {
         match place {
-            Place::Start => Place::Start,
-            Place::Next if octets.len() < self.needed() => Place::Next,
-            _ => Place::Astray,
+            Place::Next if octets.len() < self.needed() => (Place::Next, 1),
+            Place::Start => (Place::Start, self.marker.find(octets, 1, most)),
+            _ => (Place::Astray, self.marker.find(octets, 1, most)),
         }
     }
 

@@ -1,5 +1,5 @@
 //! The units of a shape of CLTUs.
-ghost use Rattle.std.specs.Prelude.{◌≡◌, ◌≤◌, ◌-◌, ◌++◌, length, take, drop, IfOk, OnOk};
+ghost use Rattle.std.specs.Prelude.{◌≡◌, ◌≤◌, ◌<◌, ◌-◌, ◌++◌, ℕ, false, length, take, drop, IfOk, OnOk};
 ghost use Rattle.std.specs.List.{concat};
 ghost use Rattle.sl_sync.specs.Cltu.{block_count, cltu_data, cltu_rule, cut_octets, frames_in};
 ghost use Rattle.sl_sync.specs.Cltu.{has_sequence, is_refused, start_sequence, tail_sequence};
@@ -32,9 +32,9 @@ impl Units for CltuShape {
         starts(self, octets) && is_block(behind(octets, 2))
     }
 
-    #[inline(always)]
-    fn behind_stray(&self, _place: Place, _octets: &[u8]) -> Place {
-        Place::Start
+    #[tactic(auto, using(crate::proofs::CltuLemmas::unstarted))]
+    fn stray(&self, _place: Place, octets: &[u8], most: usize) -> (Place, usize) {
+        (Place::Start, next_start(self, octets, most))
     }
 
     #[tactic(auto, unfolding(crate::specs::Cltu::cltu_content))]
@@ -80,6 +80,22 @@ fn keep_frames(text: &mut Vec<u8>, begin: usize) -> (u64, u64)
     let cut = cut_octets(text.len() - begin - len);
     text.truncate(begin + len);
     (count, cut as u64)
+}
+
+// How many octets at the front come before the next start sequence, from the second one on. They
+// are no more than `most`.
+fn next_start(shape: &CltuShape, octets: &[u8], most: usize) -> usize
+    requires { 1 ≤ most }
+    ensures inside { (1 ≤ result) × (result ≤ most) }
+    ensures none { (j : ℕ) → 1 ≤ j → j < result
+        → has_sequence shape.now start_sequence (drop j octets.now) ≡ false }
+{
+    for place in 1..most {
+        if starts(shape, behind(octets, place)) {
+            return place;
+        }
+    }
+    most
 }
 
 // Whether the start sequence is at the front, or as much of it as the file still has.

@@ -27,7 +27,7 @@ impl Model for SyncMarker {
 }
 
 impl SyncMarker {
-    ghost use Rattle.sl_sync.specs.Marker.{IsMarker, Marker, is_marked, no_marker};
+    ghost use Rattle.sl_sync.specs.Marker.{IsMarker, IsNextMarked, Marker, is_marked, no_marker};
 
     /// No octets. They stand anywhere, so that units lie end to end from the first octet on.
     pub fn none() -> SyncMarker
@@ -73,19 +73,70 @@ impl SyncMarker {
         let marker = self.octets.as_slice();
         begins_right(marker, self.errors, octets) && wrong_bits(marker, octets) <= self.errors
     }
+
+    // The same in a call, so that the loop over places has in its registers what it needs.
+    #[inline(never)]
+    fn is_here(&self, octets: &[u8]) -> bool
+        ensures { result ≡ is_marked self.now octets.now }
+    {
+        self.is_at(octets)
+    }
+
+    /// The first place from `from` on, and before `end`, at which the marker is; `end` where it is
+    /// at none of them.
+    pub(crate) fn find(&self, octets: &[u8], from: usize, end: usize) -> usize
+        requires { (from ≤ end) × (end ≤ length octets.now) }
+        ensures { IsNextMarked self.now octets.now from end result }
+    {
+        let marker = self.octets.as_slice();
+        for place in from..end {
+            let octets = &octets[place..];
+            if begins_right(marker, self.errors, octets) && self.is_here(octets) {
+                return place;
+            }
+        }
+        end
+    }
 }
 
-ghost use Rattle.sl_sync.specs.Marker.{wrong_bits};
+ghost use Rattle.sl_sync.specs.Marker.{front_of, wrong_bits};
 
-// Whether the first octet has no more wrong bits than the whole marker may have. Most octets that
-// aren't a marker's are told by that.
+// Whether the first four octets have no more wrong bits than the whole marker may have. Nearly all
+// places without a marker are told by that.
 #[inline(always)]
 fn begins_right(marker: &[u8], errors: u32, octets: &[u8]) -> bool
+    ensures { result ≡ false → errors < wrong_bits marker.now octets.now }
+{
+    match (front_of(marker), front_of(octets)) {
+        (Some(marker), Some(octets)) => (marker ^ octets).count_ones() <= errors,
+        _ => first_right(marker, errors, octets),
+    }
+}
+
+// The same of the first octet, where there are fewer than four.
+#[inline(always)]
+fn first_right(marker: &[u8], errors: u32, octets: &[u8]) -> bool
     ensures { result ≡ false → errors < wrong_bits marker.now octets.now }
 {
     match (marker, octets) {
         ([first, ..], [octet, ..]) => (*first ^ *octet).count_ones() <= errors,
         _ => true,
+    }
+}
+
+// The first four octets as one number, where there are so many.
+#[inline(always)]
+#[tactic(auto, unfolding(crate::specs::Marker::front_of))]
+fn front_of(octets: &[u8]) -> Option<u32>
+    ensures { SomeIff result (4 ≤ length octets.now) (front_of octets.now) }
+{
+    match octets {
+        [a, b, c, d, ..] => {
+            let high = u32::from(*a) * 256 + u32::from(*b);
+            let low = u32::from(*c) * 256 + u32::from(*d);
+            Some(high * 0x10000 + low)
+        }
+        _ => None,
     }
 }
 

@@ -52,17 +52,21 @@ impl Totals {
         }
     }
 
-    /// The counts with a stray octet that has this place behind it.
+    /// The counts with a number of stray octets, each with this place behind it.
     #[inline(always)]
-    pub(crate) fn with_stray(self, place: Place) -> Totals
-        ensures { CountsStray self place result }
+    pub(crate) fn with_stray(self, place: Place, count: usize) -> Totals
+        ensures { CountsStray self place count result }
     {
-        let is_astray = matches!(place, Place::Astray);
+        let astray = if matches!(place, Place::Astray) {
+            count
+        } else {
+            0
+        };
         Totals {
             frames: self.frames,
             wrong_markers: self.wrong_markers,
-            skipped: self.skipped.saturating_add(1),
-            astray: self.astray.saturating_add(u64::from(is_astray)),
+            skipped: self.skipped.saturating_add(count as u64),
+            astray: self.astray.saturating_add(astray as u64),
             refused_blocks: self.refused_blocks,
             cut: self.cut,
         }

@@ -1,8 +1,8 @@
 //! The units of a file: what tells where one begins and what it holds.
-ghost use Rattle.std.specs.Prelude.{◌≡◌, ◌++◌, ◌≤◌, true, OnOk, IfOk};
+ghost use Rattle.std.specs.Prelude.{◌≡◌, ◌++◌, ◌≤◌, true, length, OnOk, IfOk};
 ghost use Rattle.std.specs.List.{concat};
 ghost use Rattle.sl_sync.specs.Held.{Holds};
-ghost use Rattle.sl_sync.specs.Units.{Rule};
+ghost use Rattle.sl_sync.specs.Units.{AreStray, Rule};
 
 use std::alloc::AllocError;
 
@@ -45,9 +45,11 @@ pub trait Units {
     fn begins(&self, place: Place, octets: &[u8]) -> bool
         ensures { result ≡ (rule self.now).begins place octets.now };
 
-    /// The place behind an octet with which no unit begins.
-    fn behind_stray(&self, place: Place, octets: &[u8]) -> Place
-        ensures { result ≡ (rule self.now).behind place octets.now };
+    /// The place behind an octet with which no unit begins, and how many octets from it on are
+    /// stray: as many with this place behind them as are told at once, of the first `most` at most.
+    fn stray(&self, place: Place, octets: &[u8], most: usize) -> (Place, usize)
+        requires { (1 ≤ most) × (most ≤ length octets.now) }
+        ensures { AreStray (rule self.now) place octets.now most result.0 result.1 };
 
     /// Adds the frames of the unit that begins here to `text`, and counts what it holds.
     fn push_unit(&self, octets: &[u8], text: &mut Vec<u8>) -> Result<Held, AllocError>

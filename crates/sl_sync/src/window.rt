@@ -1,5 +1,5 @@
 //! The frames of a window of a file.
-ghost use Rattle.std.specs.Prelude.{◌≡◌, ◌⊎◌, ◌<◌, ◌≤◌, [], true, false, length, drop, IfOk};
+ghost use Rattle.std.specs.Prelude.{◌≡◌, ◌⊎◌, ◌<◌, ◌≤◌, ◌+◌, [], true, false, length, drop, IfOk};
 ghost use Rattle.sl_sync.specs.Units.{IsSound};
 ghost use Rattle.sl_sync.specs.Window.{Cuts};
 
@@ -45,9 +45,10 @@ pub fn push_frames<U: Units>(
             rest = behind(rest, held.size);
             place = Place::Next;
         } else {
-            place = units.behind_stray(place, rest);
-            totals = totals.with_stray(place);
-            rest = behind(rest, 1);
+            let (next, count) = units.stray(place, rest, seen(rest, ended, ahead));
+            place = next;
+            totals = totals.with_stray(place, count);
+            rest = behind(rest, count);
         }
     }
     Ok(Cut {
@@ -65,4 +66,19 @@ fn is_seen(octets: &[u8], ended: bool, ahead: usize) -> bool
     ensures all { result ≡ false → ended ≡ true → octets.now ≡ [] }
 {
     !octets.is_empty() && (ended || octets.len() >= ahead)
+}
+
+// Of how many octets it can be seen what they are.
+#[inline(always)]
+fn seen(octets: &[u8], ended: bool, ahead: usize) -> usize
+    requires some { 1 ≤ length octets.now }
+    requires far { (1 ≤ ahead) × ((ended ≡ true) ⊎ (ahead ≤ length octets.now)) }
+    ensures inside { (1 ≤ result) × (result ≤ length octets.now) }
+    ensures each { (ended ≡ true) ⊎ (result + ahead ≡ length octets.now + 1) }
+{
+    if ended {
+        octets.len()
+    } else {
+        octets.len() - ahead + 1
+    }
 }

@@ -11,5 +11,5 @@ parts-preserved-then-begins g c =
 pub parts-preserved : goal.parts-preserved
 parts-preserved g c =
     let seen = c.is_seen.ensures.seen c.parts-test.true in
-    cutting-stray c.parts.invariant _ _ c.requires (rw c.ahead-ahead.ensures at seen.1) seen.0 (sym c.begins.ensures ∙ c.if-begins.false)
-    c.behind_stray-place.ensures c.behind-rest-else-begins.ensures c.with_stray-totals.ensures
+    cutting-stray c.parts.invariant _ _ _ _ c.requires (rw c.ahead-ahead.ensures at c.seen.ensures.each) c.seen.ensures.inside.1
+    (sym c.begins.ensures ∙ c.if-begins.false) c.stray-next.ensures c.behind-rest-else-begins.ensures c.with_stray-totals.ensures

@@ -61,7 +61,7 @@ fn run_asked(rt: &HostRuntime, asked: &Asked<'_>) -> u8 {
 
 // Runs over a file of this name.
 fn run_file(rt: &HostRuntime, shape: &Shape, name: &str) -> u8 {
-    match File::open(rt, name) {
+    match open_file(rt, name) {
         Ok(file) => {
             let mut reader = Counted::new(file);
             let mut writer = Counted::new(rt.stdout());
@@ -78,6 +78,15 @@ fn run_file(rt: &HostRuntime, shape: &Shape, name: &str) -> u8 {
             REFUSED
         }
     }
+}
+
+// Opens a file to read it. A folder is refused.
+fn open_file(rt: &HostRuntime, name: &str) -> io::Result<File> {
+    let file = File::open(rt, name)?;
+    if file.metadata()?.is_dir() {
+        return Err(io::Error::from(ErrorKind::IsADirectory));
+    }
+    Ok(file)
 }
 
 // Writes help, the version, or why the command line is refused, and returns the exit status.

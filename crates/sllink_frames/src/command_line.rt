@@ -1,4 +1,6 @@
 //! The command line.
+ghost use Rattle.std.specs.Prelude.{◌≡◌, ◌<◌, ◌≤◌, IfErr, IfOk, option_map};
+ghost use Rattle.sllink_frames.specs.CommandLine.{IsCltuShape, marker_in, marker_of};
 
 use clap::{Arg, ArgAction, ArgMatches, Command, value_parser};
 use sl_sync::{CaduShape, CltuShape, SyncMarker};
@@ -164,7 +166,10 @@ fn number(matches: &ArgMatches<'_>, name: &str) -> u16 {
 }
 
 // CLTUs, of whose start sequence this number of bits may be wrong.
-fn cltu_shape(errors: u16, randomised: bool) -> Result<Shape, Refused> {
+fn cltu_shape(errors: u16, randomised: bool) -> Result<Shape, Refused>
+    ensures shape { IfOk result (λ shape. (errors ≤ 4) × IsCltuShape errors randomised shape) }
+    ensures refused { IfErr result (λ refused. (4 < errors) × (refused ≡ Refused.Errors)) }
+{
     if errors > 4 {
         return Err(Refused::Errors);
     }
@@ -175,7 +180,9 @@ fn cltu_shape(errors: u16, randomised: bool) -> Result<Shape, Refused> {
 }
 
 // The marker of this text, of whose bits this number may be wrong; none where there is no text.
-fn marker_of(text: Option<&str>, errors: u16) -> Result<SyncMarker, Refused> {
+fn marker_of(text: Option<&str>, errors: u16) -> Result<SyncMarker, Refused>
+    ensures { result ≡ marker_of (option_map (λ t. t.now) text.entry) errors }
+{
     match text {
         None if errors > 0 => Err(Refused::Errors),
         None => Ok(SyncMarker::none()),
@@ -184,7 +191,9 @@ fn marker_of(text: Option<&str>, errors: u16) -> Result<SyncMarker, Refused> {
 }
 
 // The marker of this text, two hexadecimal digits an octet.
-fn read_marker(text: &str, errors: u16) -> Result<SyncMarker, Refused> {
+fn read_marker(text: &str, errors: u16) -> Result<SyncMarker, Refused>
+    ensures { result ≡ marker_in text.now errors }
+{
     let mut octets = [0; 16];
     let len = text.len() / 2;
     if len == 0 || len > 16 {

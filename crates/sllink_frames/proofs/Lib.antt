@@ -1,0 +1,2 @@
+-- the marker of a text
+pub mod MarkerLemmas

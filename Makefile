@@ -1,6 +1,7 @@
-# Installs the built program, its tools, manual pages and completions, or takes them away again; or packs them. Builds the
-# library for C.
+# Builds the programs. Installs them, their tools, manual pages and completions, or takes them away again; or packs them.
+# Builds the library for C.
 #
+#     make programs
 #     make
 #     make install
 #     make install PREFIX=$HOME/.local
@@ -21,11 +22,11 @@
 # makes a package. `make dist` writes out/sllink-VERSION-linux-ARCHITECTURE.tar.gz, whose folders work wherever they
 # lie beside each other; `make deb` writes out/sllink_VERSION_ARCHITECTURE.deb, and wants dpkg-deb. `make wheel` writes
 # out/sllink-VERSION-py3-none-any.whl, the Python module alone, which is in the archive too. Each writes out/SHA256SUMS,
-# of all packages that are there. The program isn't built here: that is done by `rt run` in crates/sllink. The manual
-# pages of the tools and the completions are made into PAGES, which is out where nothing is said, by python3 from what
-# the program and the tools print with --help: by `make` alone, and before they are installed or packed. `make
+# of all packages that are there. `make programs` proves and builds the programs, by the kit. The manual pages, but for
+# that of sllink, and the completions are made into PAGES, which is out where nothing is said, by python3 from what the
+# programs and the tools print with --help: by `make` alone, and before they are installed or packed. `make
 # lib` proves and builds libsllink.a and libsllink.so in LIBRARIES, which is out where nothing is said, and wants the
-# kit, cc, ld, objcopy and ar. Where they are there, they are installed and packed with the program, with their header
+# kit, cc, ld, objcopy and ar. Where they are there, they are installed and packed with the programs, with their header
 # and what pkg-config reads.
 
 PREFIX = /usr/local
@@ -45,8 +46,16 @@ INCLUDE = $(PREFIX)/include
 LIB = $(PREFIX)/lib
 
 PROGRAM = crates/sllink/out/sllink
+# The crates of the programs beside sllink. That of sllink_x is installed as sllink-x: the one that $SLLINK_X names, else
+# the one that `rt run` leaves.
+PROGRAMS = sllink_frames
+built = $(or $($(shell echo $(1) | tr a-z A-Z)),crates/$(1)/out/$(1))
+BESIDE = $(foreach it,$(PROGRAMS),"$(call built,$(it))")
+BUILD = for it in sllink $(PROGRAMS); do (cd crates/$$it && $(RT) run -- --version) || exit 1; done
+RT = rt
 PAGES = out
 TOOLS = $(notdir $(wildcard tools/sllink-*))
+NAMES = $(subst _,-,$(PROGRAMS)) $(TOOLS)
 INSTALL = install
 
 # The number in it rises when a program that was linked to the library would have to be built again.
@@ -57,37 +66,42 @@ CALLS = crates/sl_c/out/libsl_c.a
 HEAP = $(dir $(shell rt doc 2> /dev/null))c/liblibc_c.a
 OBJCOPY = objcopy
 
-.PHONY: all install uninstall built pages dist deb wheel lib bench quick contracts check
+.PHONY: all programs install uninstall built pages dist deb wheel lib bench quick contracts check
 .SILENT: install uninstall dist deb wheel
 
 all: pages
 	@echo "$(PROGRAM) is built; 'make install' installs it under $(PREFIX)"
 
+programs:
+	@$(BUILD)
+
 built:
-	@test -x "$(PROGRAM)" || { \
-	  echo "$(PROGRAM) isn't built yet; 'rt run -- --help' in crates/sllink builds it" >&2; exit 1; }
+	@for it in "$(PROGRAM)" $(BESIDE); do \
+	  test -x "$$it" || { echo "$$it isn't built yet; 'make programs' builds it" >&2; exit 1; }; \
+	done
 
 pages: built
-	@man/from-help "$(PROGRAM)" "$(PAGES)"
+	@man/from-help "$(PAGES)" "$(PROGRAM)" $(BESIDE)
 
-# bash and fish look for the completions of a tool under its name.
+# bash and fish look for the completions of a program or tool under its name.
 install: pages
 	$(INSTALL) -d "$(DESTDIR)$(BIN)" "$(DESTDIR)$(MAN)" "$(DESTDIR)$(BASH_COMPLETIONS)" \
 	  "$(DESTDIR)$(ZSH_COMPLETIONS)" "$(DESTDIR)$(FISH_COMPLETIONS)" "$(DESTDIR)$(MODULE)"
 	$(INSTALL) -m 755 "$(PROGRAM)" "$(DESTDIR)$(BIN)/sllink"
+	$(foreach it,$(PROGRAMS),$(INSTALL) -m 755 "$(call built,$(it))" "$(DESTDIR)$(BIN)/$(subst _,-,$(it))" &&) true
 	$(INSTALL) -m 755 $(TOOLS:%=tools/%) "$(DESTDIR)$(BIN)"
 	$(INSTALL) -m 644 python/sllink/*.py python/sllink/py.typed "$(DESTDIR)$(MODULE)"
 	for package in $(PACKAGES); do \
 	  $(INSTALL) -d "$(DESTDIR)$(MODULE)/$$package" && \
 	  $(INSTALL) -m 644 "python/sllink/$$package"/*.py "$(DESTDIR)$(MODULE)/$$package" || exit 1; \
 	done
-	$(INSTALL) -m 644 man/sllink.1 $(TOOLS:%="$(PAGES)/%.1") "$(DESTDIR)$(MAN)"
+	$(INSTALL) -m 644 man/sllink.1 $(NAMES:%="$(PAGES)/%.1") "$(DESTDIR)$(MAN)"
 	$(INSTALL) -m 644 "$(PAGES)/sllink.bash" "$(DESTDIR)$(BASH_COMPLETIONS)/sllink"
 	$(INSTALL) -m 644 "$(PAGES)/_sllink" "$(DESTDIR)$(ZSH_COMPLETIONS)/_sllink"
 	$(INSTALL) -m 644 "$(PAGES)/sllink.fish" "$(DESTDIR)$(FISH_COMPLETIONS)/sllink.fish"
-	for tool in $(TOOLS); do \
-	  ln -sf sllink "$(DESTDIR)$(BASH_COMPLETIONS)/$$tool" && \
-	  ln -sf sllink.fish "$(DESTDIR)$(FISH_COMPLETIONS)/$$tool.fish" || exit 1; \
+	for name in $(NAMES); do \
+	  ln -sf sllink "$(DESTDIR)$(BASH_COMPLETIONS)/$$name" && \
+	  ln -sf sllink.fish "$(DESTDIR)$(FISH_COMPLETIONS)/$$name.fish" || exit 1; \
 	done
 	if [ -e "$(LIBRARIES)/libsllink.a" ]; then \
 	  $(INSTALL) -d "$(DESTDIR)$(INCLUDE)" "$(DESTDIR)$(LIB)/pkgconfig" && \
@@ -113,7 +127,7 @@ lib:
 
 # The files go, the folders stay, but for the one that has nothing else.
 uninstall:
-	for name in sllink $(TOOLS); do \
+	for name in sllink $(NAMES); do \
 	  rm -f "$(DESTDIR)$(BIN)/$$name" "$(DESTDIR)$(MAN)/$$name.1" "$(DESTDIR)$(BASH_COMPLETIONS)/$$name" \
 	    "$(DESTDIR)$(FISH_COMPLETIONS)/$$name.fish" || exit 1; \
 	done
@@ -137,10 +151,10 @@ dist: built
 	$(MAKE) -s install PREFIX= DESTDIR="$(OUT)/$(PACKED)"
 	python/wheel "$(OUT)/$(PACKED)" > /dev/null
 	cp CHANGELOG.md "$(OUT)/$(PACKED)"
-	printf '%s\n' "sllink, its tools, manual pages, completions and Python module. This folder may lie anywhere; the" \
-	  "folders in it have to stay beside each other. The program needs glibc $(LIBC) or later, program and library a" \
-	  "processor of x86-64-v2, the tools Python 3.8 or later. With D for the folder's path:" "" \
-	  '    export PATH=D/bin:$$PATH                                     program, tools, manual pages' \
+	printf '%s\n' "sllink, the programs and tools beside it, manual pages, completions and Python module. This folder may" \
+	  "lie anywhere; the folders in it have to stay beside each other. The programs need glibc $(LIBC) or later, programs" \
+	  "and library a processor of x86-64-v2, the tools Python 3.8 or later. With D for the folder's path:" "" \
+	  '    export PATH=D/bin:$$PATH                                     programs, tools, manual pages' \
 	  '    export XDG_DATA_DIRS=D/share:/usr/local/share:/usr/share    completions for bash and fish' \
 	  '    fpath=(D/share/zsh/site-functions $$fpath)                   those for zsh, before compinit' \
 	  '    export PYTHONPATH=D/share/sllink/python                     the module, where pip has not installed the wheel' \
@@ -159,10 +173,10 @@ wheel:
 	$(SUMS)
 
 # Nothing in the package says who built it, or where. Debian's zsh has the completions of packages in a folder of its
-# own, and doesn't look into site-functions under /usr. Of the C library the package wants the last version that the
+# own, and doesn't look into site-functions under /usr. Of the C library the package wants the last version that a
 # program names. For its size a folder counts as a KiB, and a file as whole ones, which is the same on each file system.
 MAINTAINER = unnamed <unnamed@invalid>
-LIBC = $(shell grep -a -h -o 'GLIBC_[0-9][0-9.]*' "$(PROGRAM)" $(wildcard $(LIBRARIES)/$(SONAME)) | sed 's/GLIBC_//' | sort -V | tail -n 1)
+LIBC = $(shell grep -a -h -o 'GLIBC_[0-9][0-9.]*' "$(PROGRAM)" $(BESIDE) $(wildcard $(LIBRARIES)/$(SONAME)) | sed 's/GLIBC_//' | sort -V | tail -n 1)
 SIZE = find "$(ROOM)/usr" -printf '%y %s\n' | awk '{ k += /^f/ ? int(($$2 + 1023) / 1024) : 1 } END { print k }'
 ROOM = $(OUT)/$(DEBIAN)
 DOC = $(ROOM)/usr/share/doc/sllink
@@ -213,8 +227,6 @@ CONTRACTS = docs/contracts
 contracts:
 	@python3 -B tests/lib/contracts.py "$(CONTRACTS)"
 
-# The gate, then the program, and all that is tried on it. The last line counts both.
-RT = rt
+# The gate, then the programs, and all that is tried on them. The last line counts both.
 check:
-	@unset MAKEFLAGS MFLAGS MAKELEVEL; python3 -B tests/lib/counts.py "$(RT) ci" \
-	  "(cd crates/sllink && $(RT) run -- --version) && (cd crates/sllink_frames && $(RT) run -- --version) && tests/all"
+	@unset MAKEFLAGS MFLAGS MAKELEVEL; python3 -B tests/lib/counts.py '$(RT) ci' '($(BUILD)) && tests/all'

@@ -20,6 +20,14 @@ mkdir "$room/top" "$room/tmp" "$room/bin" "$room/log"
 ln -s "$root/examples" "$root/docs" "$root/tools" "$root/python" "$room/top"
 ln -s "$program" "$room/bin/sllink"
 for tool in "$root"/tools/*; do ln -s "$tool" "$room/bin"; done
+# The programs beside it: those that $SLLINK_FRAMES and the like name, or that stand in their crates.
+beside=()
+for crate in $(sed -n 's/^PROGRAMS = //p' "$root/Makefile"); do
+  name=${crate//_/-} named=${crate^^}
+  beside+=("$name")
+  ln -sf "$(realpath -m "${!named:-$root/crates/$crate/out/$crate}")" "$room/bin/$name"
+  export "$named=$room/bin/$name"
+done
 export SLLINK=$program TMPDIR=$room/tmp PATH=$room/bin:$PATH PYTHONDONTWRITEBYTECODE=1
 export PYTHONPATH=$root/python:$root/tests/lib
 cd "$room/top" || exit 1

@@ -14,7 +14,7 @@ import subprocess
 import sys
 from collections import Counter
 from concurrent.futures import ThreadPoolExecutor
-from typing import Any, List, Sequence, Tuple
+from typing import Any, Dict, List, Sequence, Tuple
 
 HERE = os.path.dirname(os.path.realpath(__file__))
 ROOT = os.path.dirname(os.path.dirname(HERE))
@@ -72,6 +72,14 @@ def program_of(words: Sequence[str]) -> str:
         print(f"tests/{os.path.basename(sys.argv[0])}: {program}: there is no such program", file=sys.stderr)
         sys.exit(2)
     return program
+
+
+def beside() -> Dict[str, str]:
+    """The programs beside it: those that $SLLINK_FRAMES and the like name, or that stand in their crates."""
+    with open(f"{ROOT}/Makefile", encoding="utf-8") as it:
+        crates = re.findall("(?m)^PROGRAMS = (.*)", it.read())[0].split()
+    return {crate.upper(): os.path.realpath(os.environ.get(crate.upper()) or f"{ROOT}/crates/{crate}/out/{crate}")
+            for crate in crates}
 
 
 def add(what: str, status: int, lines: List[str]) -> None:

@@ -1,4 +1,4 @@
-"""The program as a child: where it is, what it is given, and what it says."""
+"""The programs as children: where they are, what they are given, and what they say."""
 
 import contextlib
 import os
@@ -18,7 +18,7 @@ MOST_SAID = 65536                                            # octets that are k
 MOST_VERSION = 64                                            # more than the version has
 CHUNK = 1 << 16                                              # octets that are read from a pipe at once
 BLOCK = 3 << 20                                              # octets of lines that are read together
-VERSION = re.compile(rb"sllink \d+(\.\d+)*\n")               # what the program answers to --version
+VERSION = rb"%s \d+(\.\d+)*\n"                               # what a program answers to --version
 TOTALS = re.compile(rb"frames \d+ skipped \d+ packets \d+ idle \d+ anomalies \d+\n")   # the last line of `check`
 
 Path = Optional[Union[str, "os.PathLike[str]"]]
@@ -34,52 +34,71 @@ def find_program(program: Path = None) -> str:
     return os.environ.get("SLLINK") or shutil.which("sllink") or [*there, "sllink"][0]
 
 
-_known: Set[Tuple[int, ...]] = set()                         # programs that have answered as sllink
+def variable(name: str) -> str:
+    """The variable that says where a program is."""
+    return name.upper().replace("-", "_")
 
 
-def _started(command: List[str], **pipes: Any) -> Any:
+def find_beside(name: str, program: Path = None) -> str:
+    """A program beside sllink: the one that is named, else that of its variable, as $SLLINK_FRAMES, else the one in the
+    folder of sllink, else the one that is installed with this module or built in its repository."""
+    if program is not None:
+        return os.fspath(program)
+    crate = name.replace("-", "_")
+    there = [os.path.join(os.path.dirname(it), name) for it in (shutil.which(find_program()), INSTALLED) if it]
+    there.append(BUILT.replace("sllink/out/sllink", f"{crate}/out/{crate}"))
+    return os.environ.get(variable(name)) or next(filter(os.path.exists, there), name)
+
+
+_known: Set[Tuple[Any, ...]] = set()                         # programs that have answered with their names
+
+
+def _started(name: str, command: List[str], **pipes: Any) -> Any:
     try:
         return subprocess.Popen(command, **pipes)            # pylint: disable=consider-using-with
     except (FileNotFoundError, NotADirectoryError, PermissionError):
-        raise SllinkError(127, f"{command[0]}: there is no such program; $SLLINK says where it is") from None
+        raise SllinkError(
+            127, f"{command[0]}: there is no such program; ${variable(name)} says where it is") from None
 
 
-def require_sllink(name: str) -> None:
-    """Asks a program for its version at its first use, and refuses one that doesn't answer as sllink does. What another
+def require_program(name: str, program: str) -> None:
+    """Asks a program for its version at its first use, and refuses one that doesn't answer with this name. What another
     program says of a recording, or leaves unsaid, might look like an answer."""
-    key: Tuple[int, ...] = ()
+    key: Tuple[Any, ...] = ()
     with contextlib.suppress(OSError):                       # starting it says why
-        it = os.stat(shutil.which(name) or name)
-        key = it.st_dev, it.st_ino, it.st_size, it.st_mtime_ns
+        it = os.stat(shutil.which(program) or program)
+        key = name, it.st_dev, it.st_ino, it.st_size, it.st_mtime_ns
     if key in _known:
         return
-    with _started([name, "--version"], stdin=subprocess.DEVNULL, stdout=subprocess.PIPE,
+    with _started(name, [program, "--version"], stdin=subprocess.DEVNULL, stdout=subprocess.PIPE,
                   stderr=subprocess.DEVNULL) as child:
         try:
             said = child.stdout.read(MOST_VERSION)
-            answered = len(said) < MOST_VERSION and child.wait() == 0 and VERSION.fullmatch(said)
+            answered = len(said) < MOST_VERSION and child.wait() == 0 and re.fullmatch(VERSION % name.encode(), said)
         finally:
             child.kill()
     if not answered:
-        raise SllinkError(127, f"{name}: isn't sllink, by its answer to --version; $SLLINK says where sllink is")
+        where = f"${variable(name)} says where {name} is"
+        raise SllinkError(127, f"{program}: isn't {name}, by its answer to --version; {where}")
     _known.add(key)
 
 
 class Child:
-    """A running program, whose standard output is `output`."""
+    """A running program, whose standard output is `output`; `good` are the statuses at which it has done all that it was
+    asked for. After the end `status` is its own, and `said` the beginning of what it said."""
 
-    def __init__(self, verb: str, kind: str, recording: Recording, options: Words, program: Path = None) -> None:
-        name = find_program(program)
-        command = [name, verb, kind, *words_of(options)]
-        for word in command[1:]:
+    def __init__(self, name: str, program: str, words: List[str], recording: Recording,
+                 good: Tuple[int, ...] = (0,)) -> None:
+        for word in words:
             if not isinstance(word, str):
                 raise TypeError(f"{word!r} is no word of a command line")
             if "\0" in word:
-                raise SllinkError(2, f"sllink: {word!r}: no word has an octet 0")
+                raise SllinkError(2, f"{name}: {word!r}: no word has an octet 0")
             if ASKS(word):
-                raise SllinkError(2, f"sllink: {word} is no option for a recording")
-        require_sllink(name)
-        self._verb, self._said = verb, b""
+                raise SllinkError(2, f"{name}: {word} is no option for a recording")
+        require_program(name, program)
+        self._name, self._good, self.status = name, good, 0
+        self.said = self.last = b""
         self._fault: Optional[BaseException] = None          # of reading the recording
         recording = require_open(recording)
         source: Any = recording
@@ -88,7 +107,7 @@ class Child:
                 source = subprocess.PIPE
             elif not isinstance(recording, int):
                 source = opened.enter_context(open(source, "rb", buffering=0))
-            self._child = _started(command, stdin=source, stdout=subprocess.PIPE, stderr=subprocess.PIPE, bufsize=CHUNK)
+            self._child = _started(name, [program, *words], stdin=source, stdout=subprocess.PIPE, stderr=subprocess.PIPE, bufsize=CHUNK)
         self.output: BinaryIO = self._child.stdout
         if self._child.stdin:
             self._beside(self._feed, recording)
@@ -125,42 +144,53 @@ class Child:
         try:
             with self._child.stderr as pipe:
                 while octets := pipe.read1(1 << 16):
-                    self._said += octets[:MOST_SAID - len(self._said)]
+                    self.said += octets[:MOST_SAID - len(self.said)]
         except MemoryError as fault:
             self._fault = fault
             self._child.kill()
 
     def parts(self) -> Iterator[bytes]:
-        """The output, and then the end: a normal form in parts, all but the last one of CHUNK octets, or lines."""
-        if self._verb == "normalise":
-            yield from iter(lambda: self.output.read(CHUNK), b"")
-        else:
-            for line in self.output:
-                if line.endswith(b"\n"):                     # else it is cut off, and the status says why
-                    yield line
+        """The output in parts, all but the last one of CHUNK octets, and then the end."""
+        yield from iter(lambda: self.output.read(CHUNK), b"")
         self.end()
 
-    def end(self, last: bytes = b"") -> None:
-        """After the end of the output, and with its last line: raises where the program didn't come to the end of the
-        recording. `check` has totals there."""
-        status = self._child.wait()
+    def lines(self) -> Iterator[bytes]:
+        """The lines of the output, and then the end. The last one is `last`, also where it is cut off."""
+        for self.last in self.output:
+            if self.last.endswith(b"\n"):                    # else the status says why
+                yield self.last
+        self.end()
+
+    def end(self) -> None:
+        """After the end of the output: raises where the program didn't come to the end of the recording."""
+        self.status = status = self._child.wait()
         self._listener.join(10)
         self.output.close()
         if self._fault is not None:
             raise self._fault
-        if status and (status, self._verb) != (1, "check"):
-            first, *rest = (" ".join(it.split()) for it in self._said.decode(errors="backslashreplace").split("\n\n"))
+        if status not in self._good:
+            first, *rest = (" ".join(it.split()) for it in self.said.decode(errors="backslashreplace").split("\n\n"))
             reason = "; ".join([first, *(part for part in rest if part.startswith("tip: "))])
-            reason = explained(re.sub("^(error: )?(sllink: )?", "", reason))
-            raise SllinkError(status, f"sllink: {reason or 'status ' + str(status)}")
-        if self._verb == "check" and not TOTALS.fullmatch(last):
-            raise SllinkError(3, "sllink: the totals are missing")
+            reason = explained(re.sub(f"^(error: )?({self._name}: )?", "", reason))
+            raise SllinkError(status, f"{self._name}: {reason or 'status ' + str(status)}")
 
     def close(self) -> None:
         """Ends the program where it is."""
         self._child.kill()
         self._child.wait()
         self.output.close()
+
+
+def _listing(verb: str, kind: str, recording: Recording, options: Words, program: Path = None) -> Child:
+    """sllink, as it reads a recording."""
+    words = [verb, kind, *words_of(options)]
+    return Child("sllink", find_program(program), words, recording, (0, 1) if verb == "check" else (0,))
+
+
+def _require_totals(verb: str, last: bytes) -> None:
+    """The last line of `check`."""
+    if verb == "check" and not TOTALS.fullmatch(last):
+        raise SllinkError(3, "sllink: the totals are missing")
 
 
 def lines(verb: str, kind: str, recording: Recording, options: Words, *,
@@ -171,12 +201,10 @@ def lines(verb: str, kind: str, recording: Recording, options: Words, *,
     if isinstance(program, Library):
         yield from program.text(verb, kind, recording, options).decode("ascii").splitlines()
         return
-    with contextlib.closing(Child(verb, kind, recording, options, program)) as child:
-        line = b""
-        for line in child.output:
-            if line.endswith(b"\n"):                         # else it is cut off, and the status says why
-                yield line[:-1].decode("ascii")
-        child.end(line)
+    with contextlib.closing(_listing(verb, kind, recording, options, program)) as child:
+        for line in child.lines():
+            yield line[:-1].decode("ascii")
+        _require_totals(verb, child.last)
 
 
 @contextlib.contextmanager
@@ -187,14 +215,15 @@ def output_of(verb: str, kind: str, recording: Recording, options: Words,
         text = program.text(verb, kind, recording, options)
         yield iter([text] if verb == "normalise" else text.splitlines(keepends=True))
         return
-    with contextlib.closing(Child(verb, kind, recording, options, program)) as child:
-        yield child.parts()
+    with contextlib.closing(_listing(verb, kind, recording, options, program)) as child:
+        yield child.parts() if verb == "normalise" else child.lines()
 
 
 def blocks(verb: str, kind: str, recording: Recording, options: Words) -> Iterator[bytes]:
     """The lines of a listing, with their line feeds, many of them together."""
-    with contextlib.closing(Child(verb, kind, recording, options)) as child:
+    with contextlib.closing(_listing(verb, kind, recording, options)) as child:
         block = b""
         for block in iter(lambda: child.output.read(BLOCK) + child.output.readline(), b""):
             yield block[:block.rfind(b"\n") + 1]             # a rest is cut off, and the status says why
-        child.end(block[block.rfind(b"\n", 0, -1) + 1:])
+        child.end()
+        _require_totals(verb, block[block.rfind(b"\n", 0, -1) + 1:])

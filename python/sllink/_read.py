@@ -3,6 +3,7 @@
 import errno
 import io
 import os
+import re
 from contextlib import ExitStack, closing
 from itertools import chain, zip_longest
 from typing import Any, BinaryIO, ContextManager, Generator, Iterator, Literal, Optional, Union, overload
@@ -12,10 +13,12 @@ from ._compare.store import Packets, room, take
 from ._fault import SllinkError
 from ._library import Library, Recording
 from ._options import Words, words_of
-from ._program import Program, lines, output_of
-from ._records import Anomaly, Packet, Remainder, Run, Skip, TcFrame, TmFrame, Totals
+from ._program import Child, Path, Program, find_beside, lines, output_of
+from ._records import Anomaly, Packet, Remainder, Run, Skip, StationTotals, TcFrame, TmFrame, Totals
 from ._records import anomaly_of, frame_of, packet_of
 from .tool import Refused
+
+Output = Union[str, bytes, "os.PathLike[str]", BinaryIO]
 
 
 @overload
@@ -86,18 +89,48 @@ def packets(kind: str, recording: Recording, options: Words, *,
             yield packet_of(line)
 
 
-def normal_form(kind: str, recording: Recording, output: Union[str, bytes, "os.PathLike[str]", BinaryIO],
-                options: Words, *, program: Program = None) -> None:
+def normal_form(kind: str, recording: Recording, output: Output, options: Words, *, program: Program = None) -> None:
     """Writes the normal form of a recording into a file, which is made anew, or to a binary file object. Where the
     program refuses something or stops while it reads, nothing is written, and a file that is there stays as it is."""
-    if isinstance(output, int):
-        raise TypeError(f"the normal form goes to a path or a binary file object: {output!r}")
+    _require_output(output)
     with output_of("normalise", kind, recording, options, program) as form:
-        first = next(form, b"")
-        with ExitStack() as opened:
-            file: Any = output if hasattr(output, "write") else opened.enter_context(open(output, "wb"))
-            for octets in chain([first], form):
-                _write(octets, file)
+        _write_parts(form, output)
+
+
+def station_frames(recording: Recording, output: Output, *, length: Optional[int] = None, marker: bytes = b"",
+                   errors: int = 0, lead: int = 0, trail: int = 0, cltu: bool = False, derandomise: bool = False,
+                   program: Path = None) -> StationTotals:
+    """Writes the frames of a station's file, by the program sllink-frames, whose options these are: `cltu`, or a `length`
+    and what stands around each frame. They go into a file, which is made anew, or to a binary file object. Where the
+    program refuses an option nothing is written, and at a fault the beginning is. The program is the one that is named,
+    else $SLLINK_FRAMES, else the one beside sllink."""
+    _require_output(output)
+    options = {"length": length, "marker": marker.hex() or None, "errors": errors or None, "lead": lead or None,
+               "trail": trail or None}
+    words = [f"--{name}={value}" for name, value in options.items() if value is not None]
+    words += ["--cltu"] * cltu + ["--derandomise"] * derandomise
+    name = "sllink-frames"
+    with closing(Child(name, find_beside(name, program), words, recording, (0, 1))) as child:
+        _write_parts(child.parts(), output)
+    numbers = re.fullmatch(rb"frames (\d+) wrong-markers (\d+) skipped-octets (\d+) refused-blocks (\d+) "
+                           rb"cut-octets (\d+)\n", child.said)
+    if not numbers:
+        raise SllinkError(3, f"{name}: the counts are missing")
+    return StationTotals(*map(int, numbers.groups()), child.status)
+
+
+def _require_output(output: Output) -> None:
+    if isinstance(output, int):
+        raise TypeError(f"what is written goes to a path or a binary file object: {output!r}")
+
+
+def _write_parts(parts: Iterator[bytes], output: Output) -> None:
+    """Writes what comes; nothing where it ends with a fault before the first part."""
+    first = next(parts, b"")
+    with ExitStack() as opened:
+        file: Any = output if hasattr(output, "write") else opened.enter_context(open(output, "wb"))
+        for octets in chain([first], parts):
+            _write(octets, file)
 
 
 def _write(octets: bytes, file: BinaryIO) -> None:

@@ -160,6 +160,23 @@ class Totals(Line):
 
 
 @dataclass(frozen=True)
+class StationTotals(Line):
+    """What sllink-frames counts in a station's file. `status` is 1 where a marker was wrong, a code block was refused,
+    or octets went astray behind the first unit, and else 0; the line doesn't have it."""
+
+    __slots__ = ("frames", "wrong_markers", "skipped_octets", "refused_blocks", "cut_octets", "status")
+    frames: int
+    wrong_markers: int
+    skipped_octets: int
+    refused_blocks: int
+    cut_octets: int
+    status: int
+
+    def __str__(self) -> str:
+        return super().__str__().replace("_", "-").rpartition(" status")[0]
+
+
+@dataclass(frozen=True)
 class Packet(Line):
     """A packet: its virtual channel, its MAP (None in TM), the fields of its primary header, and all its octets."""
 

@@ -35,6 +35,7 @@ sys.path.insert(0, str(ROOT / "python"))
 import sllink  # noqa: E402
 from sllink import _calls, tool  # noqa: E402
 from sllink._library import INSTALLED, octets_of  # noqa: E402
+from sllink._program import find_beside  # noqa: E402
 
 EXAMPLES = ROOT / "examples"
 FIRST, SECOND, THIRD = (EXAMPLES / f"{name}-station.tm" for name in ("first", "second", "third"))
@@ -434,9 +435,13 @@ class Ends(InAFolder):
                         self.refused(3, "the totals are missing", *words, "tm", os.devnull, STATION, program=program)
 
     def test_where_the_program_is(self):
-        with unittest.mock.patch.dict(os.environ, SLLINK="/a/program"):
+        with unittest.mock.patch.dict(os.environ, SLLINK="/a/program", SLLINK_FRAMES="/b/program"):
             self.assertEqual(sllink.find_program(), "/a/program")
             self.assertEqual(sllink.find_program("another"), "another")
+            self.assertEqual(find_beside("sllink-frames"), "/b/program")
+        beside = str(self.program("", name="sllink-frames"))
+        with unittest.mock.patch.dict(os.environ, SLLINK=str(self.program("")), SLLINK_FRAMES=""):
+            self.assertEqual(find_beside("sllink-frames"), beside)
 
     def test_ended_within_the_listing(self):
         for end, status, said in (("kill -9 $$", -signal.SIGKILL, ""),
@@ -542,6 +547,39 @@ def frames_of(letters, fecf=False):
     frames = [bytes([0, 16, place, place, 24, 0, 0, 1, 192, ord(letter), 0, 19]) + letter.encode() * 20
               for place, letter in enumerate(letters)]
     return b"".join(it + crc_hqx(it, 0xFFFF).to_bytes(2, "big") * fecf for it in frames)
+
+
+class StationFiles(InAFolder):
+    """The program sllink-frames."""
+
+    def test_frames(self):
+        """From each sort of recording and to each sort of output, with a marker that is wrong and without."""
+        octets, marker, output = FIRST.read_bytes(), bytes.fromhex("1acffc1d"), self.folder / "out.tm"
+        units = b"".join(marker + octets[at:at + 32] + b"trail" for at in range(0, len(octets), 32))
+        stamp = {"length": 32, "marker": marker, "trail": 5}
+        for file, line, status in ((units, "frames 11 wrong-markers 0", 0),
+                                   (units[:41] + b"!" + units[42:], "frames 11 wrong-markers 1", 1)):
+            path = self.file("units", file)
+            with open(path, "rb") as opened:
+                for recording, to in (path, output), (opened.fileno(), io.BytesIO()), (io.BytesIO(file), output):
+                    totals = sllink.station_frames(recording, to, **stamp)
+                    self.assertEqual(output.read_bytes() if to is output else to.getvalue(), octets)
+                    self.assertEqual(str(totals), f"{line} skipped-octets 0 refused-blocks 0 cut-octets 0")
+                    self.assertEqual((totals.frames, totals.status), (11, status))
+                    self.assertEqual(copy.copy(totals), totals)
+
+    def test_refusals(self):
+        """Nothing is written."""
+        output = self.folder / "out.tm"
+        for options, said in (({}, "^sllink-frames: .* --length"), ({"length": 0}, "^sllink-frames: --length: 1 to"),
+                              ({"cltu": True, "errors": 5}, "--errors: "), ({"cltu": True, "lead": 1}, "--lead")):
+            self.refused(2, said, sllink.station_frames, PASS, output, **options)
+        self.refused(127, "isn't sllink-frames, .*SLLINK_FRAMES says", sllink.station_frames, PASS, output,
+                     program=sllink.find_program())
+        self.assertFalse(output.exists())
+        program = self.program("echo frames; exit 1", "[ $1 != --version ] || { echo sllink-frames 1.0; exit; }\n")
+        self.refused(3, "^sllink-frames: the counts are missing$", sllink.station_frames, PASS, output, program=program)
+        self.assertRaises(TypeError, sllink.station_frames, PASS, 1, length=64)
 
 
 class Identifications(InAFolder):

@@ -1,13 +1,13 @@
 //! Two recordings compared: the answer, what is left of each, and faults.
 use super::support::recordings::{
-    AROUND_IDLE, DAMAGED, DIVIDED, FIRST, SECOND, TEN_FILLED, THROUGH, WHOLE, WHOLE_BD, WITH_FECF,
-    WITH_GAP, octets,
+    AROUND_IDLE, DAMAGED, DIVIDED, FIRST, FOREIGN, IN_WINDOW, MIXED, SECOND, SKIPPED, TEN_FILLED,
+    THROUGH, WHOLE, WHOLE_BD, WITH_FECF, WITH_GAP, octets,
 };
 use super::support::rows::{Stop, holds};
 use super::support::streams::{FailsAfter, InPieces, Unreadable};
 use sl_link::{
-    Compared, Counted, LinkFault, Managed, compare_tc, compare_tm, write_difference_tc,
-    write_difference_tm,
+    CheckWord, Compared, Counted, LinkFault, Managed, Summary, compare_tc, compare_tm,
+    write_difference_tc, write_difference_tm,
 };
 use sl_pair::{Answer, Station};
 use std::alloc::{AllocError, Global};
@@ -314,5 +314,112 @@ fn either_recording_may_stop_it(rt: HostRuntime) -> Result<(), Stop> {
         (LinkFault::TooLong, (0, 0)),
     )?;
     holds(&rt, &"other long", other_long);
+    Ok(())
+}
+
+// How many lines of `check` have a word, in a recording.
+type Worded<'a> = (&'a [&'a str], &'a [(CheckWord, u64)]);
+
+const TM_WORDS: [Worded; 3] = [
+    (&WITH_GAP, &[(CheckWord::Gap, 1), (CheckWord::Dropped, 1)]),
+    (&FOREIGN, &[(CheckWord::Foreign, 1)]),
+    (
+        &[FIRST, TEN_FILLED, "00"],
+        &[(CheckWord::Rest, 1), (CheckWord::Skip, 0)],
+    ),
+];
+
+const TC_WORDS: [Worded; 5] = [
+    (
+        &IN_WINDOW,
+        &[
+            (CheckWord::Early, 1),
+            (CheckWord::Late, 1),
+            (CheckWord::Outside, 1),
+            (CheckWord::Refused, 1),
+        ],
+    ),
+    (&SKIPPED, &[(CheckWord::Skip, 6)]),
+    (
+        &MIXED,
+        &[
+            (CheckWord::Stray, 1),
+            (CheckWord::Dropped, 1),
+            (CheckWord::Open, 0),
+        ],
+    ),
+    (
+        &["000100050040", "0001000d01c01002c0010000ee77"],
+        &[(CheckWord::Dropped, 1), (CheckWord::Tail, 1)],
+    ),
+    (
+        &["000100050040", "00"],
+        &[(CheckWord::Rest, 1), (CheckWord::Open, 1)],
+    ),
+];
+
+// What `check` has of a recording that is compared with an empty one.
+fn summary_tm(alloc: Global, managed: &Managed, recording: &[u8]) -> Result<Summary, Stop> {
+    let mut one = Counted::new(recording);
+    let mut other = Counted::new("".as_bytes());
+    let hasher: Hasher = BuildHasherDefault::new();
+    let compared = compare_tm(alloc, hasher, managed, &mut one, managed, &mut other)?;
+    Ok(compared.first)
+}
+
+fn summary_tc(alloc: Global, managed: &Managed, recording: &[u8]) -> Result<Summary, Stop> {
+    let mut one = Counted::new("".as_bytes());
+    let mut other = Counted::new(recording);
+    let hasher: Hasher = BuildHasherDefault::new();
+    let compared = compare_tc(alloc, hasher, managed, &mut one, managed, &mut other)?;
+    Ok(compared.second)
+}
+
+// Whether so many lines have each word, and no others are there.
+fn has_words(summary: &Summary, wanted: &[(CheckWord, u64)]) -> bool {
+    let mut all: u64 = 0;
+    let mut is_so = true;
+    for (word, number) in wanted {
+        is_so = is_so && summary.words.of(*word) == *number;
+        all = all.saturating_add(*number);
+    }
+    is_so && summary.totals.anomalies() == all
+}
+
+#[test]
+fn lines_of_check_are_counted_by_their_words(rt: HostRuntime) -> Result<(), Stop> {
+    let alloc = rt.alloc();
+    let managed = link(1000)?;
+    for (recording, wanted) in &TM_WORDS {
+        let recording = octets(alloc, recording)?;
+        let summary = summary_tm(alloc, &managed, recording.as_slice())?;
+        holds(&rt, &"words", has_words(&summary, wanted));
+    }
+    for (recording, wanted) in &TC_WORDS {
+        let recording = octets(alloc, recording)?;
+        let summary = summary_tc(alloc, &managed, recording.as_slice())?;
+        holds(&rt, &"words", has_words(&summary, wanted));
+    }
+    Ok(())
+}
+
+// Frames of the spacecraft; those of them with a right error control field; longer ones; whether
+// virtual channel 0 has begun.
+fn signs_of(summary: &Summary) -> (u64, u64, u64, bool) {
+    let signs = summary.signs;
+    (signs.own, signs.right, signs.long, signs.begun[0])
+}
+
+#[test]
+fn options_show_in_frames(rt: HostRuntime) -> Result<(), Stop> {
+    let alloc = rt.alloc();
+    let managed = link(1000)?;
+    let bare = Managed::new(1, 34, false, 16, false, 10, 0, 68).map_err(|_| Stop::Absent)?;
+    let fields = octets(alloc, &WITH_FECF)?;
+    let summary = summary_tm(alloc, &bare, fields.as_slice())?;
+    holds(&rt, &"fields", signs_of(&summary) == (2, 1, 0, true));
+    let skipped = octets(alloc, &SKIPPED)?;
+    let summary = summary_tc(alloc, &managed, skipped.as_slice())?;
+    holds(&rt, &"skipped", signs_of(&summary) == (5, 0, 1, false));
     Ok(())
 }

@@ -137,6 +137,20 @@ impl Managed {
         self.spacecraft
     }
 
+    /// Whether TM frames have a frame error control field.
+    pub fn tm_fecf(&self) -> bool
+        ensures { result ≡ self.now.tm_fecf }
+    {
+        self.tm.fecf()
+    }
+
+    /// Whether TC frames have a frame error control field.
+    pub fn tc_fecf(&self) -> bool
+        ensures { result ≡ self.now.tc_fecf }
+    {
+        self.tc.fecf()
+    }
+
     /// These parameters, with `plain` as the virtual channels of TC frames whose frames have no
     /// segment headers.
     pub fn with_plain(self, plain: VcSet) -> Managed

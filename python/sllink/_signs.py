@@ -1,7 +1,7 @@
 """What transfer frames show of themselves: the spacecraft and counts that rise, an error control field, packets that go
 on up to the end of a frame, randomisation.
 
-sllink-identify finds out by these signs what a recording is, and `_contradiction` whether options contradict it.
+`_contradiction` finds out by these signs whether options contradict a recording. sllink-identify has its own.
 """
 
 import re
@@ -191,11 +191,6 @@ class Frames:
         enough = max(2, self.number * 0.1)
         return sum(number for number in self.scids.values() if number >= enough) / max(1, self.number)
 
-    @property
-    def are_packets(self) -> bool:
-        """Whether these are space packets of one length: of frames, the segment length identifier says otherwise."""
-        return self.packets >= max(2, 0.5 * self.number)
-
     def checked(self) -> int:
         """How many frames have a right error control field."""
         return sum(self.right.values())
@@ -204,11 +199,6 @@ class Frames:
         """How many counts rise by one, and the greater one of the shares of those of the two kinds."""
         shares = [self.steps[kind] / self.pairs[kind] for kind in self.steps if self.pairs[kind]]
         return sum(self.steps.values()), max(shares, default=0)
-
-    @property
-    def evidence(self) -> Tuple[int, float]:
-        """How much speaks for the length: error control, counts that rise, headers that agree."""
-        return min(self.checked(), 3), self.rising()[1] * self.share
 
 
 def mostly_right(right: int, number: int) -> bool:
@@ -243,25 +233,6 @@ def by_control(frames: Frames) -> Tuple[Optional[bool], Optional[str]]:
     if followed + broken >= 3:
         return None, "packets don't go on from frame to frame: other octets may follow each frame, as of parity"
     return None, "too few packets go on from frame to frame to tell whether other octets follow each frame"
-
-
-def inner(frames: Sequence[bytes]) -> Optional[int]:
-    """The octets of each frame up to a right error control field, where it isn't at the end; else None."""
-    counts: Counter[int] = counter()
-    for frame in frames[:8]:
-        register = 0xFFFF
-        for at in range(len(frame)):
-            register = crc_hqx(frame[at:at + 1], register)
-            if register == 0 and at + 1 >= SHORTEST:
-                counts[at + 1] += 1
-    length, number = max(counts.items(), key=lambda item: item[1], default=(0, 0))
-    return length if number >= 3 and number >= 0.5 * min(8, len(frames)) else None
-
-
-def plain_evidence(frames: Frames) -> bool:
-    """Whether headers and counts are enough to be sure of the length, where no error control field is."""
-    steps, share = frames.rising()
-    return steps >= 5 and share >= 0.5 and frames.share >= 0.75
 
 
 # Sync markers, and headers of TM frames that lie at one distance.

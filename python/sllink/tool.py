@@ -100,10 +100,11 @@ def about(recording: str) -> Iterator[None]:
 def identified(recording: str) -> str:
     """What the sllink-identify beside this tool says of a recording, in some words; nothing where it can't be asked."""
     what, *lines = _identify(recording) or ["", ""]
-    if lines[-1].startswith("sllink check "):
+    if lines[-1].startswith("sllink check ") and not any(">" in line for line in lines):
         what += f", read with {lines[-1][13:].partition(' < ')[0]}"
-    telling = ("frames shift:", "the first frame isn't", "secondary header ", "virtual channel access ", "can't say: ")
-    return "; ".join([what, *(line for line in lines if line.startswith(telling))])
+    telling = ("secondary header ", "virtual channel access ", "can't say: ")
+    return "; ".join([what, *(line.replace("can't say: frames shift", "frames shift") for line in lines
+                              if line.startswith(telling))])
 
 
 def command_of(recording: str) -> str:
@@ -111,7 +112,7 @@ def command_of(recording: str) -> str:
     *lines, last = _identify(recording)[1:] or [""]
     if last.startswith("can't say: "):
         return ""
-    return next((line for line in lines if "sllink check " in line), last)
+    return next((line for line in lines if line.startswith(("sllink", "tail "))), last)
 
 
 def _identify(recording: str) -> List[str]:

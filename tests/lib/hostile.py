@@ -13,7 +13,6 @@ import runpy
 import struct
 import sys
 from argparse import ArgumentParser
-from binascii import crc_hqx
 from itertools import chain, compress, count, cycle, islice
 from operator import itemgetter
 from random import Random
@@ -25,9 +24,6 @@ packet, tm, tc = COSTLY["packet"], COSTLY["tm"], COSTLY["tc"]
 SOME = 1 << 16                                            # rows that are made at once
 FULL, ROOM = 1112, 1106                                   # TM frames that are full of packets of 7 octets; their data
 PACKET = packet(1, 0, b"\x55")
-MARKER, START, TAIL = b"\x1a\xcf\xfc\x1d", b"\xeb\x90", b"\xc5" * 7 + b"\x79"
-HEADS = [b"\x1f\x8b\x08\0", b"BZh9", b"\xfd7zXZ\0", b"\x28\xb5\x2f\xfd", b"PK\3\4", b"\x0a\x0d\x0d\x0a",
-         b"\xd4\xc3\xb2\xa1", b"\xa1\xb2\xc3\xd4"]        # of archives and captures
 
 # File names at which a shell, a terminal, a page or a command line could stumble.
 NAMES = [b"a.tm", b"-rf", b"--help", b"a b\tc", b"line\nfeed", b"$(touch stumbled)", b"`touch stumbled`", b"a;b|c&d>e",
@@ -260,89 +256,6 @@ def spacecraft_in_turn(it: Asked) -> Iterator[bytes]:
                                                 2: bytes(range(256)) * (SOME // 256)}) for _ in count())
 
 
-# What identify looks for: lengths, phases, marks, and the heads of archives.
-
-def shifting(frames: str, length: int, checked: bool = False) -> Make:
-    """Frames of examples/costly, with other octets after each 24 to 59 of them."""
-    def make(it: Asked) -> Iterator[bytes]:
-        some = list(islice(COSTLY[frames](length - 2 * checked), 2048))
-        if checked:
-            some = [one + crc_hqx(one, 0xFFFF).to_bytes(2, "big") for one in some]
-        turns = cycle(some)
-        while True:
-            yield b"".join(islice(turns, it.chance.randrange(24, 60))) + it.noise(it.chance.randrange(1, length))
-    return make
-
-
-def tm_nested(it: Asked) -> Iterator[bytes]:
-    inside = b"".join(tm(it.chance.randrange(7), at, at, 0, packet(1, 0, it.noise(21))) for at in range(256)) * 2
-    return (tm(0, at, at, 0, inside[at % 256 * 33:][:1109]) for at in count())
-
-
-def tc_nested(it: Asked) -> Iterator[bytes]:
-    chance = it.chance
-    inside = b"".join(tc(0, chance.randrange(2), chance.randrange(256), bytes(chance.randrange(8)))
-                      for _ in range(9999))
-    return (tc(0, 0, chance.randrange(256), b"\xc0" + inside[chance.randrange(40000):][:1018]) for _ in count())
-
-
-def any_length(it: Asked) -> Iterator[bytes]:
-    while True:
-        octets = bytearray(rows(b"\0\x10\0\0", {2: it.noise(), 3: it.noise()}))
-        free, lengths = set(range(0, len(octets), 4)), list(range(32, 2049, 4))
-        it.chance.shuffle(lengths)
-        for length, row in ((length, row) for length in lengths for row in range(0, 14 * length, length)):
-            if {row, row + length} <= free:
-                free -= {row, row + length}
-                octets[row + length + 2] = (octets[row + 2] + 1) % 256
-        yield bytes(octets)
-
-
-def remainders() -> Iterator[int]:
-    """What each octet leaves by the polynomial of the code blocks of CLTUs."""
-    for value in range(256):
-        for _ in range(8):
-            value = value << 1 ^ (0x18A if value >> 7 else 0)
-        yield value & 0xFF
-
-
-BLOCK_CODE = list(remainders())
-
-
-def parity(octets: bytes) -> int:
-    """The parity of a code block."""
-    register = 0
-    for octet in octets:
-        register = BLOCK_CODE[register ^ octet]
-    return register ^ 0xFE
-
-
-def start_in_blocks(it: Asked) -> Iterator[bytes]:
-    fronts = [b"\0\1" + it.noise(3) for _ in range(512)]
-    blocks = [next(front + bytes([at]) + START for at in range(256)
-                   if parity(front + bytes([at, START[0]])) == START[1]) for front in fronts]
-    return chain([START], (b"".join(it.chance.choices(blocks, k=4096)) for _ in count()))
-
-
-def short_cltus(_: Asked) -> Iterator[bytes]:
-    infos = [tc(0, 0, number, b"\xc0") + b"\x55" for number in range(256)]
-    return cycle([b"".join(START + info + bytes([parity(info)]) + TAIL for info in infos)])
-
-
-def marks_at_random(it: Asked) -> Iterator[bytes]:
-    some = [mark[:end] for mark in (MARKER, START, TAIL, *HEADS) for end in (len(mark), len(mark), len(mark) - 1)]
-    return (b"".join(it.chance.choices(some, k=4096)) for _ in count())
-
-
-def markers_uneven(it: Asked) -> Iterator[bytes]:
-    return (MARKER + tm(0, at, at, 2046, it.noise(it.chance.randrange(26, 2043))) for at in count())
-
-
-def markers_nested(it: Asked) -> Iterator[bytes]:
-    inside = b"".join(MARKER + tm(1, at, at, 2046, it.noise(34)) for at in range(256)) * 2
-    return (MARKER + tm(0, at, at, 0, packet(1, at, inside[at % 256 * 44:][:1103])) for at in count())
-
-
 def costly(name: str) -> Make:
     """A shape of examples/costly."""
     frames, _, length, *_ = COSTLY["KINDS"][name]
@@ -391,27 +304,7 @@ SHAPES = {name: Shape(kind, ("--scid", "1", *words.split()) * (kind != "paths"),
         ("spacecraft-in-turn", spacecraft_in_turn, "each frame of any spacecraft"),)),
     ("tm", "--tm-length 1115", 1, False, (
         ("noise", lambda it: (it.noise() for _ in count()), "any octets"),
-        ("few-octets", lambda it: (it.noise(SOME, 4) for _ in count()), "octets from 0 to 3 in no order"),
-        ("tm-phases", shifting("tm_short_packets", 1115), "other octets after each 24 to 59 frames"),
-        ("tm-nested", tm_nested, "frames that hold frames of 33 octets with counts that rise"),
-        ("marks-at-random", marks_at_random, "sync markers, start sequences and heads of archives, some cut off"),
-        ("markers-uneven", markers_uneven, "CADUs of any length"),
-        ("markers-nested", markers_nested, "CADUs of 1119 octets that hold CADUs of 44 octets"),
-        ("archives", lambda it: chain(HEADS[:1], (b"".join(it.chance.choices(HEADS, k=4096)) for _ in count())),
-         "heads of archives, the first one that of gzip"),
-        ("digits-first", lambda it: chain([it.noise().hex().encode()], (it.noise() for _ in count())),
-         "hexadecimal digits, and then any octets"))),
-    ("tm", "--tm-length 1115 --tm-fecf", 1, False, (
-        ("tm-phases-checked", shifting("tm_short_packets", 1115, True), "the same as tm-phases with error control"),)),
-    ("tm", "--tm-length 32", 1, False, (
-        ("tm-phases-short", shifting("tm_idle_frames", 32), "idle frames of 32 octets with other octets among them"),
-        ("any-length", any_length, "headers with counts that rise at as many distances as there is room for"))),
-    ("tc", "--tc-length 1024", 1, False, (
-        ("tc-phases", shifting("tc_short_packets", 13), "TC frames of 13 octets with other octets among them"),
-        ("tc-nested", tc_nested, "frames that hold frames, N(S) at random"),
-        ("start-in-blocks", start_in_blocks, "a CLTU, each of whose code blocks ends as a start sequence"),
-        ("short-cltus", short_cltus, "CLTUs of one code block"),
-        ("start-sequences", lambda it: cycle([START * SOME]), "start sequences of CLTUs"))),
+        ("few-octets", lambda it: (it.noise(SOME, 4) for _ in count()), "octets from 0 to 3 in no order"))),
     ("paths", "", 1, False, (
         ("one-path", lambda it: cycle([b"x" * SOME]), "one path without an end"),
         ("missing-paths", lambda it: (it.noise().replace(b"\0", b"\n") for _ in count()),

@@ -1,83 +1,74 @@
-"""What a recording is, of all that it may seem."""
+"""What a recording is, by the first sign that it has."""
 
-from typing import List, Sequence
+import re
+from itertools import islice
+from typing import Optional
 
-from .._signs import LONGEST, SHORTEST, Frames, right_fields, rows, tc_frame
-from .answer import HEAD, TILED, WHOLE, Answer, RecordingFile
-from .around import around
-from .cadu import cadus
-from .cltu import cltus
-from .other import archive, other_frames, space_packets
-from .tc import tc
-from .tm import answers_for, shifted_tm, tm
+from . import Identification
+from .answer import TRIED, Recording, quoted
+from .signs import APART, PAIRS, SHORTEST, TM_SEQUENCE, control, headers, right_frames
+from .tc import cltus, tc
+from .tm import CADUS, by_distance, by_markers, tm
 
-
-def likeliest(recording: RecordingFile) -> Answer:
-    """What the recording is, of all that it may seem. Stopped: it would have to be looked at further."""
-    if recording.size == 0:
-        return Answer("empty", why="there is no octet")
-    head = recording.read(0, recording.size if recording.size <= WHOLE else HEAD)
-    answers: List[Answer] = []
-    for look in archive, cadus, cltus:
-        answer = look(recording, head)
-        if answer and (look is cadus and not (answer.sure and answer.covered >= TILED) or framed(head)):
-            answers.append(answer)
-        elif answer:
-            return answer
-    before = answers[:1]
-    answers += tm(recording, head)
-    if not any(answer.whole for answer in answers):
-        answers += tc(recording, head)
-    packets = space_packets(recording, head)
-    if not (packets and packets.weight >= 2000) and not any(
-            it.whole or not it.right and (it.sure or it.what.startswith("TC") and it.covered >= 0.95
-                                          and it.weight >= 512) for it in answers):
-        answers += shifted_tm(recording, head, [it for it in answers if it.sure])
-        if any(it.sure and it.right and not it.solid for it in answers):
-            answers += shifted_tm(recording, head, [it for it in answers if it.sure])
-    if packets and (packets.weight or any(it.sure and it.within(packets, 1) and it.parted(packets) for it in answers)):
-        answers.append(packets)
-    for answer in [it for it in answers if it.sure and not it.whole]:
-        answers += outer_tm(recording, head, answer, answers)
-    # what is found within other units, or is found once more, is none
-    answers = [answer for at, answer in enumerate(answers) if not any(
-        answer.within(other, int(place > at)) for place, other in enumerate(answers) if other is not answer)]
-    answers = [it for it in answers if it.led or it.right] if any(it.led for it in answers) else answers
-    sure = [answer for answer in answers if answer.sure]
-    if packets not in answers or packets and any(answer.weight > 20 * packets.weight for answer in sure):
-        answers, packets = [it for it in answers if it is not packets], None
-    if len(sure) == 1 and not packets:
-        return sure[0]
-    if before and before[0] in answers and not sure:
-        return before[0]
-    if not answers:
-        return other_frames(recording, head) or Answer(
-            "unknown", why="no headers agree at any distance from 32 to 2048 octets, and no lengths lead from frame to "
-            "frame")
-    if packets:
-        return packets
-    best = max(answers, key=lambda answer: answer.weight)
-    if len(sure) > 1:
-        best.why = "more than one reading fits: " + "; ".join(answer.what for answer in sure)
-    return best
+HEAD, HEADERS = 1 << 17, 1 << 16                          # octets in which signs are searched for, and headers
+CAPTURED = "tshark -r {} -T fields -e udp.payload | xxd -r -p > {}"
+ARCHIVES = (
+    ("compressed by gzip", "gunzip < {} > {}", b"\x1f\x8b"), ("compressed by bzip2", "bunzip2 < {} > {}", b"BZh"),
+    ("compressed by xz", "unxz < {} > {}", b"\xfd7zXZ\0"), ("a zip archive", "unzip -p {} > {}", b"PK\3\4"),
+    ("compressed by zstd", "unzstd < {} > {}", b"\x28\xb5\x2f\xfd"),
+    ("a capture of the format pcapng, of packets of a network", CAPTURED, b"\x0a\x0d\x0d\x0a"),
+    ("a capture of the format pcap, of packets of a network", CAPTURED, b"\xd4\xc3\xb2\xa1", b"\xa1\xb2\xc3\xd4",
+     b"\x4d\x3c\xb2\xa1", b"\xa1\xb2\x3c\x4d"))
+READS = "sllink reads TM and TC frames"
 
 
-def outer_tm(recording: RecordingFile, head: bytes, inner: Answer, known: Sequence[Answer]) -> List[Answer]:
-    """What the recording is as TM frames around those of this answer, which then can't be sure."""
-    found = around(recording, head, inner)
-    if not found:
-        return []
-    length, begins = found
-    inner.why = (f"around these are TM frames of {length} octets, of which {len(begins)} have a right error control "
-                 "field")
-    frames = Frames([[head[begin:begin + length] for begin in begins]], length, True)
-    return [it for it in answers_for(recording, head, [(False, length, begins[0] % length, frames)])
-            if not any(other.sure and other.what == it.what for other in known)]
+def identification(name: str, file: int) -> Identification:
+    """What the recording of this name is."""
+    recording = Recording(name, file)
+    head = recording.read(0, HEAD)
+    found = archive(name, head) or frames(recording, head) or other(head) or Identification(
+        "unknown", why="there are no sync markers, start sequences, error control fields or headers that go on")
+    return found if recording.tried <= TRIED else Identification(
+        "unknown", why=f"stopped after {TRIED} places at which a frame might begin")
 
 
-def framed(head: bytes) -> bool:
-    """Whether the octets begin with frames: the first two of TC, or two of three TM frames of some length, have a right
-    error control field."""
-    first = tc_frame(head)
-    return right_fields((first, tc_frame(head, len(first)))) > 1 or any(
-        right_fields(rows(head, length, 0, 3)) > 1 for length in range(SHORTEST, LONGEST + 1))
+def archive(name: str, head: bytes) -> Optional[Identification]:
+    """Something compressed, a capture or text, with the command that makes octets of frames of it."""
+    bare = re.sub(r"\.(gz|bz2|xz|zst|zip)$", "", name)
+    for what, command, *begins in ARCHIVES:
+        if head.startswith(tuple(begins)):
+            command = command.format(quoted(name), quoted(bare, ".octets" * (bare == name)))
+            return Identification(what, commands=(command,))
+    if re.fullmatch(rb"[0-9A-Fa-f\s]*", head) and re.search(rb"[0-9A-Fa-f]{8}", head):
+        command = f"xxd -r -p < {quoted(name)} > {quoted(name, '.octets')}"
+        return Identification("hexadecimal digits", commands=(command,))
+    return Identification("text" if head else "empty", why=READS if head else "there is no octet") if re.fullmatch(
+        rb"[\t\n\r\x20-\x7e]*", head) else None
+
+
+def frames(recording: Recording, head: bytes) -> Optional[Identification]:
+    """TM and TC frames, by each sign in turn."""
+    known = list(islice(right_frames(head), PAIRS))
+    checked = by_distance(head, control(head, known))
+    layout = by_markers(head, checked) or checked
+    if layout and not layout.length:
+        found = other(head[layout.at:], layout.distance)
+        return Identification(CADUS, why=found.what if found else "what is between them isn't plain, also derandomised")
+    found = None if layout else cltus(recording, head) or tc(recording, known, head, True)
+    if not found and not layout:
+        layout = by_distance(head, headers(head[:HEADERS], bytes(5))) or by_distance(
+            head, headers(head[:HEADERS], TM_SEQUENCE), TM_SEQUENCE)
+    return found or (tm(recording, head, layout) if layout else tc(recording, known, head, False))
+
+
+def other(head: bytes, distance: int = 0) -> Optional[Identification]:
+    """Frames of AOS and USLP from the first octet on, by version, and counts that rise or the stated length."""
+    for apart in range(distance or SHORTEST, (distance or APART) + 1):
+        rows = [head[at:at + 6] for at in range(0, min(len(head), 32 * apart) - 5, apart)]
+        if len(rows) > 4 and len({row[0] for row in rows}) == 1:
+            rises = sum((there[4] - here[4]) & 255 == 1 for here, there in zip(rows, rows[1:]))
+            if rows[0][0] >> 6 == 1 and rises > 2:
+                return Identification(f"AOS transfer frames (version 1), {apart} octets apart", why=READS)
+            if rows[0][0] >> 4 == 12 and all(distance or row[4] << 8 | row[5] == apart - 1 for row in rows):
+                return Identification("USLP transfer frames (version 12)", why=READS)
+    return None

@@ -1,0 +1,176 @@
+"""What octets show of frames: error control fields, counts that rise, packets that go on, lengths of TC frames."""
+
+from array import array
+from binascii import crc_hqx
+from collections import Counter as counter
+from itertools import accumulate
+from typing import Counter, Dict, Iterator, List, Optional, Sequence, Tuple
+
+SHORTEST, LONGEST, APART = 32, 2048, 2560                 # octets of a TM frame; from one to the next, at most
+PERIOD = 32767                                            # octets of 0 after which a register is the same again
+PAIRS, NEAR = 100_000, 8                                  # that are looked at; places that look alike
+Seen = Counter[Tuple[int, int]]                          # how often frames seem to lie at a distance, at a place in it
+
+
+def sequence(*taps: int) -> bytes:
+    """The octets of a randomiser, of which each bit is the sum of those that came so many bits ago."""
+    bits = [1] * 8
+    while len(bits) < 2040:
+        bits.append(sum(bits[-tap] for tap in taps) % 2)
+    return int("".join(map(str, bits)), 2).to_bytes(255, "big") * 33
+
+
+TM_SEQUENCE, TC_SEQUENCE = sequence(1, 3, 5, 8), sequence(2, 4, 5, 6, 7, 8)       # of 131.0-B and of 231.0-B
+
+
+def unmasked(octets: bytes, mask: bytes) -> bytes:
+    """The octets without a randomiser's sequence, or as they are."""
+    number = int.from_bytes(octets, "big") ^ int.from_bytes(mask[:len(octets)], "big")
+    return number.to_bytes(len(octets), "big") if mask else octets
+
+
+def right_frames(octets: bytes) -> Iterator[Tuple[int, int]]:
+    """Each place and length of a frame of version 0 whose error control field is right. With R the register over all
+    octets so far, the frame from a to b is right where R(a), with ones added, is R(b) after b - a octets of 0. So a
+    place has one key as a beginning and one as an end, and right frames are equal keys."""
+    begun: Dict[int, List[int]] = {}
+    ages = array("l", [0]) * 65536                        # how many octets of 0 lead to a register, from 1 or 3 on
+    for register in 1, 3:
+        for age in range(PERIOD):
+            ages[register], register = age, crc_hqx(b"\0", register)
+    register = 0
+    for at, octet in enumerate(octets + b"\xff"):
+        for begin in begun.get((ages[register] - at) % PERIOD, ()) if register else ():
+            if 6 < at - begin <= LONGEST and not crc_hqx(octets[begin:at], 0xFFFF):
+                yield begin, at - begin
+        if octet < 64:
+            key = (ages[register ^ 0xFFFF] - at) % PERIOD
+            begun[key] = [*begun[key][1 - NEAR:], at] if key in begun else [at]
+        register = crc_hqx(octets[at:at + 1], register)
+
+
+def right_fields(frames: Sequence[bytes]) -> int:
+    return sum(not crc_hqx(frame, 0xFFFF) for frame in frames)
+
+
+def fitting(units: Sequence[bytes]) -> int:
+    """The length at which the error control field is right in most of these units, else 0; the shortest of several, as
+    octets of 0 behind a frame leave it right."""
+    right = counter(at for unit in units for at, register in enumerate(accumulate(
+        unit[:LONGEST], lambda register, octet: crc_hqx(bytes([octet]), register), initial=0xFFFF))
+        if not register and at >= SHORTEST)
+    length, number = max(right.items(), key=lambda it: (it[1], -it[0]), default=(0, 0))
+    return length if number >= max(2, len(units) // 2) else 0
+
+
+def craft_of(octets: bytes, at: int = 0) -> int:
+    """Version and spacecraft of the TM frame here."""
+    return octets[at] << 4 | octets[at + 1] >> 4
+
+
+def risen(frames: Sequence[bytes]) -> int:
+    """In how many frames the count of the spacecraft, or that of the virtual channel, is the next one."""
+    last: Dict[int, int] = {}
+    number = 0
+    for frame in frames:
+        counts = {craft_of(frame): frame[2], 1 << 16 | frame[0] << 8 | frame[1] & 0xFE: frame[3]}
+        number += any((count - last.get(whose, count)) & 255 == 1 for whose, count in counts.items())
+        last.update(counts)
+    return number
+
+
+def crafts(frames: Sequence[bytes]) -> List[int]:
+    """The spacecraft of which there are frames enough, of version 0, with counts that rise."""
+    numbers = counter(craft_of(it) for it in frames if it[0] < 64 and (it[4] & 0x40 or it[4] & 0x18 == 0x18))
+    return [craft for craft, number in numbers.most_common(20) if number >= max(2, 0.02 * len(frames))
+            and risen([it for it in frames if craft_of(it) == craft]) >= 0.3 * (number - 1)]
+
+
+def control(octets: bytes, known: Sequence[Tuple[int, int]]) -> Seen:
+    """Where frames seem to lie: right ones, of one length and spacecraft, one after another."""
+    found: Seen = counter()
+    last: Dict[Tuple[int, int], int] = {}
+    for at, length in sorted(known):
+        distance = at - last.get((length, craft_of(octets, at)), at)
+        if SHORTEST <= length <= distance <= APART:
+            found[distance, at % distance] += 1
+        last[length, craft_of(octets, at)] = at
+    return found
+
+
+def headers(octets: bytes, mask: bytes) -> Seen:
+    """Where frames seem to lie: a header has the next count of an earlier one of its spacecraft, or virtual channel."""
+    found: Seen = counter()
+    places: Dict[int, List[int]] = {}
+    for at in range(len(octets) - 4):
+        if (octets[at] ^ mask[0]) >> 6 or (octets[at + 4] ^ mask[4]) & 0x18 != 0x18:
+            continue
+        first, second, mc, vcc = (one ^ two for one, two in zip(octets[at:at + 4], mask))
+        for key in first << 16 | (second & 0xF0) << 8 | mc, 1 << 24 | first << 16 | (second & 0xFE) << 8 | vcc:
+            for place in places.get(key - 1 if key & 255 else key + 255, ()):
+                if SHORTEST <= at - place <= APART:
+                    found[at - place, at % (at - place)] += 1
+            places[key] = [*places.get(key, ())[1 - NEAR:], at]
+        if len(found) > PAIRS:
+            break
+    return found
+
+
+def data_end(units: Sequence[bytes]) -> int:
+    """The most octets at the front of these units at which packets go on from frame to frame, else 0."""
+    runs: List[List[bytes]] = []                          # from a frame in which a packet begins to the next one
+    begun: Dict[int, List[bytes]] = {}
+    for unit in units:
+        channel, pointer = unit[0] << 8 | unit[1] & 0xFE, (unit[4] & 7) << 8 | unit[5]
+        run = begun.pop(channel, [])
+        if run and (unit[3] - run[-1][3]) & 255 == 1 and pointer != 2046 and unit[4] & 0xD8 == 0x18:
+            runs += [[*run, unit]] * (pointer < 2046)
+            begun[channel] = [*run, unit] if pointer == 2047 else [unit]
+        elif pointer < 2046:
+            begun[channel] = [unit]
+    for end in range(min(map(len, units), default=0), SHORTEST - 1, -1) if len(runs) > 3 else ():
+        if sum(joined(run, end) for run in runs[:4]) > 1 and sum(joined(it, end) for it in runs) >= 0.6 * len(runs):
+            return end
+    return 0
+
+
+def joined(run: Sequence[bytes], end: int) -> bool:
+    """Whether packets lie end to end from the first one of a frame up to the first one of a later frame."""
+    (first, *_), pointers = run, [(unit[4] & 7) << 8 | unit[5] for unit in run]
+    data = b"".join(unit[6:end - 4 * (unit[1] & 1)] for unit in run[:-1]) + run[-1][6:6 + pointers[-1]]
+    return chained(data[pointers[0]:])
+
+
+def chained(octets: bytes) -> bool:
+    """Whether the octets are packets end to end."""
+    at = 0
+    while at + 7 <= len(octets) and not octets[at] >> 5 and any(octets[at:at + 6]):
+        at += 7 + (octets[at + 4] << 8 | octets[at + 5])
+    return at == len(octets) > 0
+
+
+def stated(octets: bytes, at: int) -> int:
+    """The length that a TC frame here states, 0 where it isn't whole."""
+    length = ((octets[at + 2] & 3) << 8 | octets[at + 3]) + 1 if at + 5 <= len(octets) else 0
+    return length if 5 <= length <= len(octets) - at else 0
+
+
+def tc_length(octets: bytes, at: int = 0) -> int:
+    """The same, where version, spare bits and flags are those of a frame, too."""
+    length = stated(octets, at)
+    return length if length > 5 and not octets[at] & 0xCC and octets[at] & 0x30 != 0x10 else 0
+
+
+def tc_craft(octets: bytes, at: int = 0) -> int:
+    return (octets[at] & 3) << 8 | octets[at + 1]
+
+
+def tc_field(frames: Sequence[bytes]) -> Tuple[Optional[bool], str]:
+    """Whether TC frames have the error control field, as far as that is sure, and else why not."""
+    right, (bare, behind) = right_fields(frames), (sum(
+        any(chained(it[at:len(it) - end]) for at in (5, 6)) for it in frames[:300]) for end in (0, 2))
+    if right >= 2 and 2 * right >= len(frames) and bare <= behind + 1:
+        return True, ""
+    if right <= max(1, 0.03 * len(frames)) and bare > max(1, 2 * behind):
+        return False, ""
+    return None, f"the error control field is right in {right} of {len(frames)} frames, and {bare} end with a packet"

@@ -1,8 +1,8 @@
-"""Files as stations write them, made by lot, each with what it is: CADUs, frames with a station's octets before and after
-each, randomised ones, TC frames and CLTUs, with junk before them, losses, bit errors and octets missing or too many."""
+"""Files as stations write them, each with what it is: CADUs, frames with a station's octets before and after each,
+randomised ones, TC frames and CLTUs, with junk before them, losses, bit errors, and octets missing or too many."""
 
 import random
-from typing import Callable, Dict, List, NamedTuple, Tuple
+from collections import namedtuple
 
 import recordings
 
@@ -10,23 +10,11 @@ MARKER, START, TAIL = b"\x1a\xcf\xfc\x1d", b"\xeb\x90", b"\xc5" * 7 + b"\x79"
 LENGTHS = (64, 128, 223, 256, 446, 512, 892, 1024, 1115, 1279, 1784, 2044)
 SHAPES = ("cadu", "cadu parity", "cadu randomised", "cadu header", "header", "trailer", "header trailer", "junk",
           "randomised", "randomised header", "bare", "cadu parity randomised", "tc", "tc", "cltu", "cltu randomised")
+# A file: its octets, how it was made, what it is, at how many places its frames shift, and those that are whole.
+Made = namedtuple("Made", "octets shape kind scid length fecf randomised shifts frames")
 
 
-class Made(NamedTuple):
-    """A file: its octets, how it was made, what it is, whether its frames shift, and those that are whole."""
-
-    octets: bytes
-    shape: str
-    kind: str
-    scid: int
-    length: int
-    fecf: bool
-    randomised: bool
-    shifts: int
-    frames: List[bytes]
-
-
-def sequence(*taps: int) -> bytes:
+def sequence(*taps):
     """The 255 octets of a randomiser, whose next bit is the sum of those that came so many bits ago."""
     bits = [1] * 8
     while len(bits) < 2040:
@@ -37,11 +25,11 @@ def sequence(*taps: int) -> bytes:
 TM, TC = sequence(1, 3, 5, 8), sequence(2, 4, 5, 6, 7, 8)
 
 
-def mixed(octets: bytes, table: bytes) -> bytes:
+def mixed(octets, table):
     return bytes(octet ^ table[at % 255] for at, octet in enumerate(octets))
 
 
-def parity(seven: bytes) -> int:
+def parity(seven):
     """The remainder of a division of bits by x^7 + x^6 + x^2 + 1, inverted."""
     number = int.from_bytes(seven, "big") << 7
     for bit in range(62, 6, -1):
@@ -49,21 +37,21 @@ def parity(seven: bytes) -> int:
     return number ^ 127
 
 
-def noise(r: random.Random, octets: int) -> bytes:
+def noise(r, octets):
     return bytes(r.getrandbits(8) for _ in range(octets))
 
 
-def by_time(r: random.Random, number: int, size: int) -> bytes:
+def by_time(_, number, size):
     """Milliseconds, a counter, and zeros."""
     return ((1790000000000 + 137 * number).to_bytes(8, "big") + number.to_bytes(4, "big") + bytes(size))[:size]
 
 
-STYLES: Tuple[Callable[[random.Random, int, int], bytes], ...] = (
-    by_time, lambda r, number, size: noise(r, size), lambda r, number, size: bytes([number & 255]) + bytes(size - 1),
-    lambda r, number, size: (bytes(size) + b"\x15\xaa\x12\x34" + number.to_bytes(4, "big"))[-size:])
+STYLES = (by_time, lambda r, number, size: noise(r, size),
+          lambda r, number, size: bytes([number & 255]) + bytes(size - 1),
+          lambda r, number, size: (bytes(size) + b"\x15\xaa\x12\x34" + number.to_bytes(4, "big"))[-size:])
 
 
-def damaged(r: random.Random, octets: bytes, junk: bool) -> Tuple[bytes, int]:
+def damaged(r, octets, junk):
     """Octets with junk before them, missing or too many; how often these are."""
     shifts = r.choice((0, 0, 0, 1, 2))
     for _ in range(shifts):
@@ -72,7 +60,7 @@ def damaged(r: random.Random, octets: bytes, junk: bool) -> Tuple[bytes, int]:
     return noise(r, r.randint(1, 4000) if junk else r.choice((0, 0, r.randint(1, 600)))) + octets, shifts
 
 
-def tm(r: random.Random, shape: str) -> Made:
+def tm(r, shape):
     """TM frames, with the octets that a station has around each."""
     length = r.choice((*LENGTHS, r.randint(32, 2048)))
     scid, fecf, number = r.randrange(1024), r.random() < 0.75, r.randint(20, max(25, min(300, 300000 // length)))
@@ -93,10 +81,10 @@ def tm(r: random.Random, shape: str) -> Made:
     return Made(octets, shape, "tm", scid, length, fecf, on, shifts, whole)
 
 
-def tc(r: random.Random, shape: str) -> Made:
+def tc(r, shape):
     """TC frames end to end, or in CLTUs."""
     scid, fecf, vcs = r.randrange(1024), r.random() < 0.5, sorted(r.sample(range(64), r.randint(1, 3)))
-    starts: Dict[int, int] = {vc: r.choice((0, r.randrange(256))) for vc in vcs}
+    starts = {vc: r.choice((0, r.randrange(256))) for vc in vcs}
     plain = [vc for vc in vcs if r.random() < 0.3]
     lost, wrong, on = r.choice((0, 0, 0.02)), r.choice((0, 0.01)), "randomised" in shape
     sent = recordings.tc_frames(r, r.randint(20, 200), scid, r.choice((20, 60, 200, 480)), fecf, vcs, plain, starts)
@@ -108,7 +96,7 @@ def tc(r: random.Random, shape: str) -> Made:
     return Made(octets, shape, "tc", scid, 0, fecf, on, shifts, whole)
 
 
-def coded(frame: bytes, randomised: bool) -> bytes:
+def coded(frame, randomised):
     """The CLTU of a frame."""
     octets = frame + b"\x55" * (-len(frame) % 7)
     octets = mixed(octets, TC) if randomised else octets
@@ -116,7 +104,7 @@ def coded(frame: bytes, randomised: bool) -> bytes:
     return START + b"".join(block + bytes([parity(block) << 1]) for block in blocks) + TAIL
 
 
-def made(seed: int, number: int) -> Made:
+def made(seed, number):
     """The file of this number and seed."""
     r, shape = random.Random(f"{seed} {number}"), SHAPES[number % len(SHAPES)]
     return (tc if shape.partition(" ")[0] in ("tc", "cltu") else tm)(r, shape)

@@ -7,27 +7,24 @@
     -h, --help     Print help
     -V, --version  Print the version
 
-The first line says what it is, and the last ones are commands of a shell: where frames aren't all of the
-recording, as with sync markers, parity, octets of a station or CLTUs, sllink-frames writes them into a file
-beside it; sllink check reads them. Of two recordings, the last line compares them. Where the signs aren't
-plain the last line begins with "can't say:" and says why, as where frames shift, since octets are missing
-or too many; then the lines before it have the places.
+The first line says what it is, and the last ones are commands of a shell: sllink-frames writes the frames into
+a file beside it, where they aren't all of it, and sllink check reads them. Of two recordings, the last line
+compares them. Where the signs aren't plain the last line begins with "can't say:" and says why, as where frames
+shift, since octets are missing or too many; then the lines before it have the places.
 
-Status: 0 there are commands, with --options words; 1 there are none; 2 the recording can't be read, with a
-line on the standard error. It has to be a file. One whose name begins with a dash is ./-NAME, or comes after
---. No other program is run, and nothing is written. Where whoever reads the output goes away, or SIGINT,
-SIGTERM or SIGHUP stops the tool, the status is 2 without a line.
+Status: 0 there are commands, with --options words; 1 there are none; 2 the recording can't be read, with a line
+on the standard error. It has to be a file. One whose name begins with a dash is ./-NAME, or comes after --. No
+other program is run, and nothing is written. Where whoever reads the output goes away, or SIGINT, SIGTERM or
+SIGHUP stops the tool, the status is 2 without a line.
 
-Example: the packets of a recording, with the options that are found:
-
-    sllink packets $(sllink-identify --options pass.tm) < pass.tm
+Example: sllink packets $(sllink-identify --options pass.tm) < pass.tm
 """
 
 import os
 import sys
 from typing import List
 
-from .._identify import Identification, compared, identify
+from .._identify import compared, identify
 from ..tool import Refused, reason_of, require_name, shown
 
 NAME = "sllink-identify"
@@ -43,17 +40,13 @@ def main(words: List[str]) -> int:
     alone = "--options" in words[:end]
     if not 1 <= len(names) <= 2 - alone:
         raise Refused(f"one recording is wanted, or two without --options; usage: {NAME} [--options] RECORDING")
-    found = [named(name) for name in names]
+    found = []
+    for name in names:
+        try:
+            found.append(identify(name))
+        except OSError as error:
+            raise Refused(f"{shown(name)}: {reason_of(error)}") from None
     lines = [" ".join(found[0].words)] if alone else [f"{shown(name)}: {it}" for name, it in zip(names, found)]
-    if len(found) > 1:
-        lines.append(compared(*found))
+    lines += [compared(*found)] if len(found) > 1 else []
     sys.stdout.buffer.write(os.fsencode("".join(f"{line}\n" for line in lines if line)))
-    return 0 if all(it.words if alone else it.commands for it in found) and "can't say: " not in lines[-1][:11] else 1
-
-
-def named(name: str) -> Identification:
-    """What a recording is."""
-    try:
-        return identify(name)
-    except OSError as error:
-        raise Refused(f"{shown(name)}: {reason_of(error)}") from None
+    return 0 if all(it.words if alone else it.commands for it in found) and not lines[-1].startswith("can't say") else 1

@@ -49,8 +49,7 @@ def archive(name: str, head: bytes) -> Optional[Identification]:
 def frames(recording: Recording, head: bytes) -> Optional[Identification]:
     """TM and TC frames, by each sign in turn."""
     known = list(islice(right_frames(head), PAIRS))
-    checked = by_distance(head, control(head, known))
-    layout = by_markers(head, checked) or checked
+    layout = by_markers(head) or by_distance(head, control(head, known))
     if layout and not layout.length:
         found = other(head[layout.at:], layout.distance)
         return Identification(CADUS, why=found.what if found else "what is between them isn't plain, also derandomised")

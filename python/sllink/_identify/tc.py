@@ -88,15 +88,15 @@ def words_of(frames: Sequence[bytes], craft: int, fecf: Optional[bool]) -> List[
 def cltus(recording: Recording, head: bytes) -> Optional[Identification]:
     """Start sequences, and code blocks of right parity behind them."""
     units: List[bytes] = []
-    first = end = covered = 0
+    end = covered = 0
     for place in re.finditer(re.escape(START), head):
         at = place.end()
         while at > end and head[at:at + 8] != TAIL and is_block(head[at:at + 8]):
             at += 8
         if at > place.end():
-            first, end, covered = first if units else place.start(), at, covered + at - place.start()
+            end, covered = at, covered + at - place.start()
             units.append(b"".join(head[it:it + 7] for it in range(place.end(), at, 8)))
-    if 8 * covered < len(head) - first or covered < 16:
+    if covered < max(16, len(head) // 8):
         return None
     what, lines = "CLTUs: TC transfer frames in code blocks", [f"start sequences (EB90) {len(units)}"]
     for mask in b"", TC_SEQUENCE:
@@ -106,7 +106,7 @@ def cltus(recording: Recording, head: bytes) -> Optional[Identification]:
             more, words = about(frames, field)
             lines += [f"{'' if mask else 'not '}randomised", *more]
             return frames_of(recording, what, lines, (), words, f"{write} {quoted(recording.name)}", why)
-    return Identification("CLTUs", tuple(lines), (), (), "no TC frames are in them, also derandomised")
+    return Identification("CLTUs", tuple(lines), why="no TC frames are in them, also derandomised")
 
 
 def is_block(octets: bytes) -> bool:

@@ -17,16 +17,16 @@ CADUS = "CADUs: sync markers (1ACFFC1D) before frames"
 
 
 class Layout(NamedTuple):
-    """How frames lie: the first place, the distance from one to the next, length, spacecraft, error control field,
-    the randomiser's sequence, and the octets between marker and frame, where there are markers."""
+    """How frames lie: the first place, the distance from one to the next, whether markers are before them, the
+    sequence on them, length, spacecraft, error control field. A length of 0: what is behind markers isn't sure."""
 
     at: int
     distance: int
+    marked: bool = False
+    mask: bytes = b""
     length: int = 0
     some: Sequence[int] = ()
     fecf: bool = False
-    mask: bytes = b""
-    lead: Optional[int] = None
 
 
 def units_at(octets: bytes, places: Sequence[int], length: int, mask: bytes = b"") -> List[bytes]:
@@ -45,19 +45,14 @@ def layout_of(units: Sequence[bytes], it: Layout) -> Optional[Layout]:
     return it._replace(length=length, some=some, fecf=fecf) if length and some and 2 * others < len(units) else None
 
 
-def by_markers(head: bytes, control: Optional[Layout]) -> Optional[Layout]:
-    """By sync markers at one distance, and frames behind them. A length of 0: of these nothing is sure."""
+def by_markers(head: bytes) -> Optional[Layout]:
+    """By sync markers at one distance, and frames behind them."""
     places = [it.end() for it in islice(re.finditer(re.escape(MARKER), head), PAIRS)]
     for distance, number in Counter(there - here for here, there in zip(places, places[1:])).most_common(1):
         if number >= max(2, len(places) // 4) and distance >= SHORTEST + len(MARKER):
-            for mask in b"", TM_SEQUENCE:
-                units = units_at(head, places, distance - len(MARKER), mask)
-                found = layout_of(units, Layout(places[0], distance, mask=mask, lead=0))
-                if found:
-                    return found
-            lead = (control.at - places[0]) % distance if control else 0
-            is_it = control and control.distance == distance >= lead + control.length + len(MARKER)
-            return control._replace(lead=lead) if control and is_it else Layout(places[0], distance, lead=0)
+            some = [Layout(places[0], distance, True, mask) for mask in (b"", TM_SEQUENCE)]
+            found = [layout_of(units_at(head, places, distance - len(MARKER), it.mask), it) for it in some]
+            return found[0] or found[1] or some[0]
     return None
 
 
@@ -69,7 +64,7 @@ def by_distance(head: bytes, seen: Seen, mask: bytes = b"") -> Optional[Layout]:
         some = crafts(units_at(head, places, 6, mask))
         own = [at for at in places if craft_of(unmasked(head[at:at + 2], mask)) in some]
         units = units_at(head, range(own[0], own[-1] + 1, distance), distance, mask) if len(own) > 2 else []
-        found = layout_of(units, Layout(own[0], distance, mask=mask)) if units else None
+        found = layout_of(units, Layout(own[0], distance, False, mask)) if units else None
         if found and found.fecf:
             return found
         plain = plain or found
@@ -82,12 +77,9 @@ def shape_of(it: Layout) -> Shape:
     right = crc_hqx(it.mask[:it.length], 0)               # the register, with what the mask adds to it
 
     def sound(octets: bytes, at: int) -> int:
-        if at + it.length > len(octets) or craft_of(octets, at) not in own:
-            return 0
-        if it.fecf:
-            return it.length * (crc_hqx(octets[at:at + it.length], 0xFFFF) == right)
-        before = at - it.distance                         # it is no copy of that
-        return it.length * (before < 0 or octets[before:before + 4] != octets[at:at + 4])
+        frame, before = octets[at:at + it.length], max(0, at - it.distance)
+        return it.length * (len(frame) == it.length and craft_of(frame) in own and (
+            crc_hqx(frame, 0xFFFF) == right if it.fecf else not at or frame[:4] != octets[before:before + 4]))
 
     def begins(octets: bytes, at: int) -> bool:
         rows = units_at(octets, range(at, at + 3 * it.distance, it.distance), 6, it.mask)
@@ -117,27 +109,26 @@ def pieces_of(recording: Recording, it: Layout) -> List[range]:
 
 def tm(recording: Recording, head: bytes, it: Layout) -> Identification:
     """What a recording of frames that lie so is."""
-    pieces = pieces_of(recording, it) if it.lead is None else [range(recording.size)]
-    lead, begin, trail = it.lead or 0, pieces[0].start, it.distance - it.length
-    if it.lead is None:
-        what = f"{'randomised ' if it.mask else ''}TM transfer frames of {it.length} octets"
-        what += ", with other octets between them" * (it.distance > it.length)
-        lines, places = [], (at for piece in pieces for at in range(piece.start, piece.stop, it.distance))
-        if begin <= trail:
-            lead, trail, begin = begin, trail - begin, 0
-    else:
-        what, trail = CADUS, trail - lead - len(MARKER)
-        places = (at.end() + lead for at in re.finditer(re.escape(MARKER), head))
+    pieces = [range(recording.size)] if it.marked else pieces_of(recording, it)
+    begin, lead, trail = pieces[0].start, 0, it.distance - it.length
+    if it.marked:
+        what, trail = CADUS, trail - len(MARKER)
+        places = [at.end() for at in re.finditer(re.escape(MARKER), head)]
         lines = [f"sync markers {it.distance} octets apart", f"{'' if it.mask else 'not '}randomised",
                  f"frames of {it.length} octets"]
-    frames = [unmasked(recording.read(at, it.length), it.mask) for at in islice(places, max(300, COUNTED // it.length))]
-    frames = [frame for frame in frames if len(frame) == it.length]
+    else:
+        what = f"{'randomised ' if it.mask else ''}TM transfer frames of {it.length} octets"
+        what += ", with other octets between them" * (it.distance > it.length)
+        lines, places = [], [at for piece in pieces for at in piece[:COUNTED:it.distance]]
+        begin, lead, trail = (0, begin, trail - begin) if begin <= trail else (begin, 0, trail)
+    read = (recording.read(at, it.length) for at in places[:max(300, COUNTED // it.length)])
+    frames = [unmasked(frame, it.mask) for frame in read if len(frame) == it.length]
     some, all_of = crafts(frames) or it.some, (recording.size - pieces[0].start) // it.distance
     lines.append(f"frames {len(frames)}" + f" looked at, of about {all_of}" * (len(frames) < all_of))
     lines += about(frames, some, it)
     if 2 * sum(map(len, pieces)) < recording.size - 2 * it.distance:
-        return Identification(what, tuple(lines), (), (), "less than half of the recording are such frames")
-    options = [f"--marker {MARKER.hex()}"] * (it.lead is not None) + [f"--lead {lead}"] * (lead > 0)
+        return Identification(what, tuple(lines), why="less than half of the recording are such frames")
+    options = [f"--marker {MARKER.hex()}"] * it.marked + [f"--lead {lead}"] * (lead > 0)
     options += [f"--trail {trail}"] * (trail > 0) + ["--derandomise"] * bool(it.mask)
     commands = [f"tail -c +{begin + 1} {quoted(recording.name)}"] * (begin > 0)
     if options:

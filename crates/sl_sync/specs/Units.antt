@@ -59,8 +59,8 @@ text_of (stray place ∷ parts) = text_of parts
 abbrev pub frames_text : Rule → List ℕ → List ℕ
 frames_text r file = text_of (parts_of r Start file)
 
--- No unit begins with this number of octets, the first of which has one place behind it, and so have the others. They are
--- no more than `most`.
+-- Where no unit begins with the first of these octets, this number of them are stray, `most` at most, and each has this
+-- place behind it.
 pub record AreStray (r : Rule) (place : Place) (octets : List ℕ) (most : ℕ) (place' : Place) (count : ℕ) : Type 0 where
   pub first : place' ≡ r.behind place octets
   pub some : 1 ≤ count

@@ -45,8 +45,8 @@ pub trait Units {
     fn begins(&self, place: Place, octets: &[u8]) -> bool
         ensures { result ≡ (rule self.now).begins place octets.now };
 
-    /// The place behind an octet with which no unit begins, and how many octets from it on are
-    /// stray: as many with this place behind them as are told at once, of the first `most` at most.
+    /// Where no unit begins: the place behind this octet, and how many octets from it on are stray
+    /// and have the same place behind them, `most` at most. It may stop before it has found all.
     fn stray(&self, place: Place, octets: &[u8], most: usize) -> (Place, usize)
         requires { (1 ≤ most) × (most ≤ length octets.now) }
         ensures { AreStray (rule self.now) place octets.now most result.0 result.1 };

@@ -30,7 +30,7 @@ pub record ReadsBeginning {R : Type 0} (remaining : R → Option (List ℕ)) (ol
 
 module _ {A B : Type 0} (remaining : A → Option (List ℕ)) (others : B → Option (List ℕ)) where
   -- Both recordings were read to their ends, and these are their numbers. The answer is that both have the same packets exactly where they deliver
-  -- the same lists, and that they differ exactly where one of them has a packet that the other one hasn't. What is left
+  -- the same lists, and that they differ exactly where one of them has a packet without a counterpart. What is left
   -- are the packets that only one of them has.
   pub record Compares {S T : Type 0} {b : builder.Ghosts S T} {h : hasher.Ghosts T} (one one' : Counted A)
       (other other' : Counted B) (packets packets' : List ℕ → List (List (List ℕ))) (summary summary' : List ℕ → Summary)

@@ -57,7 +57,8 @@ pub struct Compared<S: BuildHasher + Copy> {
 
 /// Reads two recordings of TM transfer frames to their ends, in turns, and answers which packets
 /// only one of them delivers on each virtual channel, idle packets left out. Each recording has
-/// managed parameters of its own.
+/// managed parameters of its own. No clause says in which turns they are read, or what is kept
+/// meanwhile: that is seen by reading.
 pub fn compare_tm<A: Read, B: Read, S: BuildHasher + Copy>(
     alloc: Global,
     hasher: S,
@@ -103,7 +104,8 @@ pub fn compare_tm<A: Read, B: Read, S: BuildHasher + Copy>(
 
 /// Reads two recordings of TC transfer frames to their ends, in turns, and answers which packets
 /// FARM-1 lets through in only one of them on each virtual channel and MAP, idle packets left out.
-/// Each recording has managed parameters of its own.
+/// Each recording has managed parameters of its own. As in [`compare_tm`], no clause says in which
+/// turns they are read, or what is kept.
 pub fn compare_tc<A: Read, B: Read, S: BuildHasher + Copy>(
     alloc: Global,
     hasher: S,

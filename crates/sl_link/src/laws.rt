@@ -1,5 +1,7 @@
 //! What holds of the definitions alone. Each function does nothing; its clauses are the laws.
 ghost use Rattle.sl_link.specs.Compare.Lost.{StationsLackLostPackets};
+ghost use Rattle.sl_link.specs.Compare.Summarised.{TcNumbersAreOfCheck, TmNumbersAreOfCheck};
+ghost use Rattle.sl_link.specs.Compare.Text.{TcDifferencesHaveLines, TmDifferencesHaveLines};
 ghost use Rattle.sl_link.specs.Verbs.Packets.Listed.{TmPacketsAreListed, TcPacketsAreListed};
 ghost use Rattle.sl_link.specs.Normalise.Separation.{TmFormsTellPackets, TcFormsTellPackets};
 
@@ -44,4 +46,20 @@ pub fn tc_packets_are_listed()
 #[tactic(auto, using(crate::proofs::lemmas::Compare::Lost::stations_lack_lost_packets))]
 pub fn tm_stations_lack_lost_packets()
     ensures { StationsLackLostPackets }
+{}
+
+/// What `compare_tm` and `compare_tc` count of a recording is of the lines that `check` writes of
+/// it: its text is these lines, one after another, and then that of the totals, whose number of
+/// anomalies is theirs.
+#[tactic(auto, using(crate::proofs::lemmas::Compare::Laws::tm_numbers, crate::proofs::lemmas::Compare::Laws::tc_numbers))]
+pub fn compared_numbers_are_of_check()
+    ensures tm { TmNumbersAreOfCheck }
+    ensures tc { TcNumbersAreOfCheck }
+{}
+
+/// The text of what is left of two recordings of one kind has a line exactly where one of them has
+/// a packet without a counterpart.
+pub fn differences_have_lines()
+    ensures tm { TmDifferencesHaveLines }
+    ensures tc { TcDifferencesHaveLines }
 {}

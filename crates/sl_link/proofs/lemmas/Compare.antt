@@ -1,5 +1,6 @@
 -- Two recordings that are compared.
 pub mod Ends
+pub mod Laws
 pub mod Lost
 pub mod Signs
 pub mod Summary

@@ -1,5 +1,6 @@
 -- What `check` has of a recording that is compared, in numbers, and signs in its frames.
 use Rattle.std.specs.Prelude.{◌≡◌, ℕ, ◌==◌, nat_lt, Bool, false, if◌then◌else◌, List, [], ◌++◌, length, map}
+use Rattle.std.specs.List.{concat}
 use Rattle.sl_tcframe.specs.TcFrame.{tc_header_of}
 use Rattle.sl_tcframe.specs.TcDelimited.{tc_frames_of}
 use Rattle.sl_tmframe.specs.TmDelimited.{tm_frames_of}
@@ -15,9 +16,9 @@ use Rattle.sl_link.specs.Link.Managed.{Parameters, tc_format, tm_format}
 use Rattle.sl_link.specs.Link.Totals.{Counts}
 use Rattle.sl_link.specs.Tally.{remainder_after}
 use Rattle.sl_link.specs.Verbs.Check.Checking.{HasChecked}
-use Rattle.sl_link.specs.Verbs.Check.Lines.{check_counts_in, end_anomalies}
-use Rattle.sl_link.specs.Verbs.Check.Tc.{discarded_anomaly, discards, tc_anomalies_after, tc_open}
-use Rattle.sl_link.specs.Verbs.Check.Tm.{tm_anomalies_after, tm_open}
+use Rattle.sl_link.specs.Verbs.Check.Lines.{check_counts_in, end_anomalies, totals_line}
+use Rattle.sl_link.specs.Verbs.Check.Tc.{check_tc_counts, check_tc_text, discarded_anomaly, discards, tc_anomalies_after, tc_open}
+use Rattle.sl_link.specs.Verbs.Check.Tm.{check_tm_counts, check_tm_text, tm_anomalies_after, tm_open}
 use Rattle.sl_link.specs.Verbs.Listing.{Frames, lines_from}
 use Rattle.sl_link.specs.declared.compare.signs.Signs.{Signs}
 use Rattle.sl_link.specs.declared.compare.summary.Summary.{Summary}
@@ -77,6 +78,42 @@ abbrev pub tc_summary : Parameters → List ℕ → Summary
 tc_summary p =
     recording_summary (summary_in (tc_kind p) (tc_anomalies_after p) (tc_open p)
     (signs_by (is_own_tc p) (is_long_tc p) (λ frames. no_channels))) (tc_frames_of (tc_format p))
+
+-- ---- laws
+
+-- the lines of `check` of a recording, but for that of the totals
+abbrev pub recording_lines : (Frames → ℕ → List (List ℕ)) → (List ℕ → Frames) → List ℕ → List (List ℕ)
+recording_lines lines_of frames_of recording =
+    lines_of (frames_of recording) (remainder_after (frames_of recording) recording)
+
+abbrev pub tm_check_lines : Parameters → List ℕ → List (List ℕ)
+tm_check_lines p = recording_lines (check_lines (tm_kind p) (tm_anomalies_after p) (tm_open p)) (tm_frames_of p.tm_length)
+
+abbrev pub tc_check_lines : Parameters → List ℕ → List (List ℕ)
+tc_check_lines p =
+    recording_lines (check_lines (tc_kind p) (tc_anomalies_after p) (tc_open p)) (tc_frames_of (tc_format p))
+
+-- These are the lines of `check`: its text is these lines and then the totals, whose anomalies are as many. And the
+-- numbers of a recording that is compared are of these lines.
+pub record AreCheckLines (text : List ℕ) (totals : Counts) (numbers : Summary) (lines : List (List ℕ)) : Type 0 where
+  pub text_is : text ≡ concat lines ++ totals_line totals
+  pub many : totals.anomalies ≡ length lines
+  pub totals_are : numbers.totals ≡ totals
+  pub words : numbers.words ≡ word_counts lines
+
+-- The numbers are of the lines that `check` writes of a TM recording,
+abbrev pub TmNumbersAreOfCheck : Type 0
+TmNumbersAreOfCheck =
+    (p : Parameters) (recording : List ℕ)
+    → AreCheckLines (check_tm_text p recording) (check_tm_counts p recording) (tm_summary p recording)
+    (tm_check_lines p recording)
+
+-- and of a TC recording.
+abbrev pub TcNumbersAreOfCheck : Type 0
+TcNumbersAreOfCheck =
+    (p : Parameters) (recording : List ℕ)
+    → AreCheckLines (check_tc_text p recording) (check_tc_counts p recording) (tc_summary p recording)
+    (tc_check_lines p recording)
 
 -- ---- while frames are counted. Contracts of private functions alone cite this.
 

@@ -1,13 +1,19 @@
 -- What only one of two recordings delivers, as text: a line for each run of packets, or for each packet.
-use Rattle.std.specs.Prelude.{ℕ, ◌==◌, Bool, if◌then◌else◌, List, [], ◌∷◌, ◌++◌, length, codes, decimal, flat_map}
+use Rattle.std.specs.Prelude.{◌≡◌, ◌↔◌, ℕ, ◌==◌, Bool, if◌then◌else◌, List, [], ◌∷◌, ◌++◌, length, codes, decimal, flat_map}
 use Rattle.std.specs.List.{range_with_len, slice_index_or}
 use Rattle.sl_packet.specs.Packet.{apid_of}
-use Rattle.sl_pair.specs.Pairing.{ByChannel}
+use Rattle.sl_link.specs.Compare.{by_channel}
+use Rattle.sl_link.specs.Kind.Tc.{tc_packets}
+use Rattle.sl_link.specs.Kind.Tm.{tm_packets}
+use Rattle.sl_link.specs.Link.Managed.{Parameters}
+use Rattle.sl_pair.specs.Pairing.{ByChannel, NothingIsLeft}
 use Rattle.sl_pair.specs.Placed.{Placed, left_in}
 use Rattle.sl_pair.specs.Runs.{by_apid, count_of, runs_of}
 use Rattle.sl_pair.specs.declared.channel.Station.{Station}
 use Rattle.sl_pair.specs.declared.channel.Station.TheVariants.{First, Second}
 use Rattle.sl_link.specs.Verbs.Packets.Line.{packet_line}
+use Rattle.sl_link.specs.Verbs.Packets.Tc.{tc_channel_name}
+use Rattle.sl_link.specs.Verbs.Packets.Tm.{tm_channel_name}
 
 -- the mark of a recording's lines
 abbrev pub mark : Station → List ℕ
@@ -49,3 +55,19 @@ channel_text each name firsts seconds channel =
 abbrev pub difference_text : Bool → (ℕ → List ℕ) → ByChannel → ByChannel → ℕ → List ℕ
 difference_text each name firsts seconds channels =
     flat_map (channel_text each name firsts seconds) (range_with_len 0 channels)
+
+-- ---- laws
+
+-- Lines are written of two TM recordings exactly where one of them has a packet without a counterpart,
+abbrev pub TmDifferencesHaveLines : Type 0
+TmDifferencesHaveLines =
+    (each : Bool) (p p' : Parameters) (one other : List ℕ)
+    → (difference_text each tm_channel_name (by_channel (tm_packets p one)) (by_channel (tm_packets p' other)) 8 ≡ [])
+    ↔ NothingIsLeft (by_channel (tm_packets p one)) (by_channel (tm_packets p' other))
+
+-- and so of two TC recordings.
+abbrev pub TcDifferencesHaveLines : Type 0
+TcDifferencesHaveLines =
+    (each : Bool) (p p' : Parameters) (one other : List ℕ)
+    → (difference_text each tc_channel_name (by_channel (tc_packets p one)) (by_channel (tc_packets p' other)) 4096 ≡ [])
+    ↔ NothingIsLeft (by_channel (tc_packets p one)) (by_channel (tc_packets p' other))

@@ -62,6 +62,23 @@ word_counts lines =
       tail = lines_with (word_text Tail) lines;
     }
 
+-- the number of a word
+abbrev pub count_in : CheckWord → WordCounts → ℕ
+count_in Skip counts = counts.skip
+count_in Gap counts = counts.gap
+count_in Dropped counts = counts.dropped
+count_in Opaque counts = counts.opaque
+count_in Foreign counts = counts.foreign
+count_in Rest counts = counts.rest
+count_in Open counts = counts.incomplete
+count_in Early counts = counts.early
+count_in Late counts = counts.late
+count_in Outside counts = counts.outside
+count_in Refused counts = counts.refused
+count_in Stray counts = counts.stray
+count_in Long counts = counts.long
+count_in Tail counts = counts.tail
+
 -- ---- while lines are counted. Contracts of private functions alone cite this.
 
 -- where something holds, one line of this word, and else none

@@ -1,6 +1,6 @@
 //! How many lines of each word `check` has of a recording.
 ghost use Rattle.std.specs.Prelude.{◌≡◌, ◌+◌, ◌^◌, ◌<◌, ◌≤◌, ◌++◌, [], ℕ, List, length};
-ghost use Rattle.sl_link.specs.Compare.Words.{IsOneLine, lines_with, word_counts, word_text};
+ghost use Rattle.sl_link.specs.Compare.Words.{IsOneLine, count_in, lines_with, word_counts, word_text};
 
 /// The word of a line of `check`: what the line is about, its second field.
 #[derive(Clone, Copy, Debug, PartialEq, Eq)]
@@ -35,7 +35,7 @@ pub enum CheckWord {
     Tail,
 }
 
-/// How many lines of each word `check` has of a recording. No number is above that of the lines.
+/// How many lines of each word `check` has of a recording.
 #[derive(Clone, Copy, Debug, PartialEq, Eq)]
 pub struct WordCounts {
     pub skip: u64,
@@ -80,7 +80,8 @@ impl WordCounts {
 
     /// How many lines have this word.
     pub fn of(&self, word: CheckWord) -> u64
-        ensures { (lines : List (List ℕ)) → self.now ≡ word_counts lines
+        ensures value { result ≡ count_in word self.now }
+        ensures lines { (lines : List (List ℕ)) → self.now ≡ word_counts lines
             → result ≡ lines_with (word_text word) lines }
     {
         match word {

@@ -271,15 +271,16 @@ fn asked_of(verb: &str, matches: &ArgMatches<'_>) -> Asked
 }
 
 /// The managed parameters that the options of a link give, or which of them is refused first.
-/// `matches` are those of a command that takes [`link_options`]. The parameters of `managed_in` have
-/// the V(R) of `--vr` on each virtual channel, as `Managed::new` wants one; `with_vcs` puts `starts`
-/// in its place.
+/// `matches` are those of a command that takes [`link_options`]. A number that isn't there counts
+/// as 0, and a command with these options leaves none out.
 pub fn managed_of_options(matches: &ArgMatches<'_>) -> Result<Managed, RefusedParameter>
     ensures { Gives (rows_of (found_of matches.now)) result }
 {
     let vr = number_of_8_bits(matches, VR);
     let plain = plain_of(matches.get_str(PLAIN));
     let starts = initial_vrs(vr, matches.get_str(VR_OF));
+    // Those of `managed_in` have the V(R) of `--vr` on each virtual channel, as `Managed::new` wants
+    // one. `starts` take its place.
     with_vcs(managed_in(matches), plain, starts)
 }
 

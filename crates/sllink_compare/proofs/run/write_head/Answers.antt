@@ -1,0 +1,12 @@
+use Rattle.sllink_compare.proofs.WritingLemmas.{err_then, stops_at_memory, stops_weaker}
+use Rattle.sllink_compare.proofs.run.write_head.Goals as goal
+
+pub returns-in-Ok-clause-written : goal.returns-in-Ok-clause-written
+returns-in-Ok-clause-written g c = rw (c.as_bytes.ensures.value, c.as_str.ensures.value, c.in-Ok.ensures) at c.write_text.ensures.written
+
+pub returns-in-Ok-clause-stopped : goal.returns-in-Ok-clause-stopped
+returns-in-Ok-clause-stopped g c =
+    err_then c.write_text.result (rw (c.as_bytes.ensures.value, c.as_str.ensures.value, c.in-Ok.ensures) at c.write_text.ensures.fault) (λ fault s. stops_weaker s)
+
+pub returns-in-Err-clause-stopped : goal.returns-in-Err-clause-stopped
+returns-in-Err-clause-stopped g c = stops_at_memory _ _

@@ -328,9 +328,14 @@ class Recordings(Way):
         """A descriptor that doesn't block, on which these parts come, each a tenth of a second later."""
         reader, writer = os.pipe()
         os.set_blocking(reader, False)
-        steps = [*((os.write, (writer, part)) for part in parts), (os.close, (writer,))]
-        for number, (does, words) in enumerate(steps, 1):
-            threading.Timer(number / 10, does, words).start()
+
+        def send():
+            with os.fdopen(writer, "wb", 0) as file:
+                for part in parts:
+                    time.sleep(0.1)
+                    file.write(part)
+
+        threading.Thread(target=send).start()
         return reader
 
     def test_what_is_a_recording(self):

@@ -21,7 +21,7 @@ FAULTS = {6: "too long", 7: "memory"}
 
 
 class Library:
-    """libsllink.so in place of the program: as the keyword `program` of what reads recordings.
+    """libsllink.so in place of the program: as the keyword `program` of what reads recordings, but for `difference`.
 
         library = sllink.Library()
         same = sllink.same_packets("tm", "one.tm", "other.tm", options, program=library)

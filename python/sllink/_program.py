@@ -6,7 +6,7 @@ import re
 import shutil
 import subprocess
 import threading
-from typing import Any, BinaryIO, Callable, Generator, Iterator, List, Optional, Set, Tuple, Union
+from typing import Any, BinaryIO, Callable, Generator, Iterator, List, Optional, Sequence, Set, Tuple, Union
 
 from ._fault import SllinkError, explained
 from ._library import HERE, Library, Recording, next_of, require_open
@@ -39,13 +39,13 @@ def variable(name: str) -> str:
     return name.upper().replace("-", "_")
 
 
-def find_beside(name: str, program: Path = None) -> str:
+def find_beside(name: str, program: Path = None, sllink: Path = None) -> str:
     """A program beside sllink: the one that is named, else that of its variable, as $SLLINK_FRAMES, else the one in the
     folder of sllink, else the one that is installed with this module or built in its repository."""
     if program is not None:
         return os.fspath(program)
     crate = name.replace("-", "_")
-    there = [os.path.join(os.path.dirname(it), name) for it in (shutil.which(find_program()), INSTALLED) if it]
+    there = [os.path.join(os.path.dirname(it), name) for it in (shutil.which(find_program(sllink)), INSTALLED) if it]
     there.append(BUILT.replace("sllink/out/sllink", f"{crate}/out/{crate}"))
     return os.environ.get(variable(name)) or next(filter(os.path.exists, there), name)
 
@@ -83,19 +83,24 @@ def require_program(name: str, program: str) -> None:
     _known.add(key)
 
 
+def require_words(name: str, words: Sequence[str]) -> None:
+    """Refuses words that aren't such, or by which a program reads no recording."""
+    for word in words:
+        if not isinstance(word, str):
+            raise TypeError(f"{word!r} is no word of a command line")
+        if "\0" in word:
+            raise SllinkError(2, f"{name}: {word!r}: no word has an octet 0")
+        if ASKS(word):
+            raise SllinkError(2, f"{name}: {word} is no option for a recording")
+
+
 class Child:
     """A running program, whose standard output is `output`; `good` are the statuses at which it has done all that it was
     asked for. After the end `status` is its own, and `said` the beginning of what it said."""
 
     def __init__(self, name: str, program: str, words: List[str], recording: Recording,
                  good: Tuple[int, ...] = (0,)) -> None:
-        for word in words:
-            if not isinstance(word, str):
-                raise TypeError(f"{word!r} is no word of a command line")
-            if "\0" in word:
-                raise SllinkError(2, f"{name}: {word!r}: no word has an octet 0")
-            if ASKS(word):
-                raise SllinkError(2, f"{name}: {word} is no option for a recording")
+        require_words(name, words)
         require_program(name, program)
         self._name, self._good, self.status = name, good, 0
         self.said = self.last = b""
@@ -107,7 +112,8 @@ class Child:
                 source = subprocess.PIPE
             elif not isinstance(recording, int):
                 source = opened.enter_context(open(source, "rb", buffering=0))
-            self._child = _started(name, [program, *words], stdin=source, stdout=subprocess.PIPE, stderr=subprocess.PIPE, bufsize=CHUNK)
+            self._child = _started(name, [program, *words], stdin=source, stdout=subprocess.PIPE, stderr=subprocess.PIPE,
+                                   bufsize=CHUNK)
         self.output: BinaryIO = self._child.stdout
         if self._child.stdin:
             self._beside(self._feed, recording)
@@ -171,7 +177,7 @@ class Child:
         if status not in self._good:
             first, *rest = (" ".join(it.split()) for it in self.said.decode(errors="backslashreplace").split("\n\n"))
             reason = "; ".join([first, *(part for part in rest if part.startswith("tip: "))])
-            reason = explained(re.sub(f"^(error: )?({self._name}: )?", "", reason))
+            reason = explained(re.sub(f"^(error: )?({self._name}: )?(--[ab]-options: )?", "", reason))
             raise SllinkError(status, f"{self._name}: {reason or 'status ' + str(status)}")
 
     def close(self) -> None:

@@ -6,17 +6,15 @@ import os
 import re
 from contextlib import ExitStack, closing
 from itertools import chain, zip_longest
-from typing import Any, BinaryIO, ContextManager, Generator, Iterator, Literal, Optional, Union, overload
+from typing import Any, BinaryIO, ContextManager, Generator, Iterator, List, Literal, Optional, Union, overload
 
-from ._compare.difference import Difference
-from ._compare.store import Packets, room, take
+from ._difference import SAME, compared
 from ._fault import SllinkError
 from ._library import Library, Recording
 from ._options import Words, words_of
 from ._program import Child, Path, Program, find_beside, lines, output_of
 from ._records import Anomaly, Packet, Remainder, Run, Skip, StationTotals, TcFrame, TmFrame, Totals
 from ._records import anomaly_of, frame_of, packet_of
-from .tool import Refused
 
 Output = Union[str, bytes, "os.PathLike[str]", BinaryIO]
 
@@ -146,37 +144,39 @@ def same_packets(kind: str, a: Recording, b: Recording, options: Words, b_option
                  program: Program = None) -> bool:
     """Whether two recordings deliver the same packets on each virtual channel, and MAP, in the same order, idle ones
     left out. Options aren't held against the recordings: one that is read with wrong options may deliver nothing, or
-    something else. So look at its anomalies first. sllink-compare and sllink-report hold them against its first
-    thousand frames.
+    something else. So look at its anomalies first, or ask sllink-compare.
 
     Read with the same options, the normal forms are compared, octet by octet. Where the second one has options of its
-    own, they are the same where `difference` has no run, since a normal form depends on the options too.
+    own, sllink-compare has the answer, or of a library its lines of packets, since a normal form depends on the options
+    too.
     """
     if b_options is not None and words_of(b_options) != words_of(options):
-        return not any(True for _ in difference(kind, a, b, options, b_options, program=program))
+        if isinstance(program, Library):
+            one, other = (_by_channel(program.text("packets", kind, *it)) for it in ((a, options), (b, b_options)))
+            return one == other
+        with compared(kind, (a, b), (options, b_options), find_beside("sllink-compare", None, program)) as (answer, _):
+            return answer == SAME
     if isinstance(program, Library):
         return program.same_packets(kind, a, b, options)
-    with output_of("normalise", kind, a, options, program) as one, \
-            output_of("normalise", kind, b, options, program) as other:
-        return all(here == there for here, there in zip_longest(one, other))
+    with output_of("normalise", kind, a, options, program) as here, \
+            output_of("normalise", kind, b, options, program) as there:
+        return all(it == its for it, its in zip_longest(here, there))
+
+
+def _by_channel(listing: bytes) -> List[bytes]:
+    """The lines of `packets`, in the order of each channel."""
+    return sorted(listing.splitlines(), key=lambda line: line.partition(b" apid ")[0])
 
 
 def difference(kind: str, a: Recording, b: Recording, options: Words, b_options: Optional[Words] = None, *,
-               program: Program = None) -> Generator[Run, None, None]:
+               program: Path = None) -> Generator[Run, None, None]:
     """The packets that only one of two recordings has, in runs of the packet sequence count, as sllink-compare lists
-    them: by channel, in the order of its packets. Nothing comes where both have the same packets in the same order. A
-    packet that both have, but in another order, is in a run of each. The packets are compared by BLAKE2b of 128 bits.
-    Options aren't held against the recordings.
+    them; nothing where both have the same packets, in whatever order. Options aren't held against the recordings. The
+    program is the one that is named, else $SLLINK_COMPARE, else the one beside sllink.
 
-    Both are read before the first run comes. 20 to 44 octets a packet are kept in a folder among the temporary files,
-    in $TMPDIR, which is deleted at the end. OSError: also that there is no room for them.
+    Both are read before the first run comes. A recording that is no file goes through a temporary one.
     """
-    try:
-        with room("sllink") as folder:
-            sides = [Packets(os.path.join(folder, side)) for side in "ab"]
-            for side, recording, of in zip(sides, (a, b), (options, options if b_options is None else b_options)):
-                with output_of("packets", kind, recording, of, program) as listing:
-                    take(listing, side)
-            yield from Difference(sides, folder).runs()
-    except Refused as reason:
-        raise OSError(str(reason)) from None
+    if isinstance(program, Library):
+        raise TypeError("a library has no call for what only one recording has")
+    with compared(kind, (a, b), (options, options if b_options is None else b_options), program) as (_, runs):
+        yield from runs

@@ -226,12 +226,8 @@ class Run(Line):
 
     def __str__(self) -> str:
         channel = f"vc {self.vc}" if self.map is None else f"vc {self.vc} map {self.map}"
-        return run_line(self.side, channel, self.apid, *self.counts, self.packets)
-
-
-def run_line(side: str, channel: str, apid: int, first: int, last: int, packets: int) -> str:
-    counts = first if packets == 1 else f"{first}..{last}"
-    return f"{side} {channel} apid {apid} counts {counts} packets {packets}"
+        counts = "..".join(map(str, self.counts[:self.packets]))
+        return f"{self.side} {channel} apid {self.apid} counts {counts} packets {self.packets}"
 
 
 def frame_of(kind: str, line: str) -> Union[TmFrame, TcFrame, Skip, Remainder]:
@@ -269,6 +265,15 @@ def anomaly_of(line: str) -> Union[Anomaly, Totals]:
     of = {"octets": int(words[0])} if word == "rest" else dict(zip(words[::2], map(int, words[1::2])))
     return Anomaly(int(first), word, of.get("vc"), of.get("map"), None, of.get("expected"), of.get("found"),
                    of.get("ad"), of.get("octets"))
+
+
+def run_of(line: str) -> Run:
+    """A line of sllink-compare, of packets that only one recording has."""
+    side, *words = line.split()
+    of = dict(zip(words[::2], words[1::2]))
+    first, _, last = of["counts"].partition("..")
+    return Run(side, int(of["vc"]), int(of["map"]) if "map" in of else None, int(of["apid"]),
+               (int(first), int(last or first)), int(of["packets"]))
 
 
 def packet_of(line: str) -> Packet:

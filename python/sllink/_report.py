@@ -1,16 +1,14 @@
 """A page of a pass: of one recording, or of two and what each of them lacks."""
 
 import hashlib
-import os
-from typing import Counter, List, Optional, Sequence, Tuple
+from typing import Counter, List, Sequence, Tuple
 
 from ._check_words import meaning_of
-from ._compare.store import MOST_APIDS, Key, Packets, room
 from ._page import Table, facts, figure, folded, heading, listing, page, paragraph, verdict
 from ._picture import Picture
 from ._questions import questions
 from ._survey import MOST_LINES, MOST_LOCKOUTS, NOT_READ, Reports, Survey
-from ._tally import MOST_RUNS, Lacks, Tally
+from ._tally import MOST_APIDS, MOST_RUNS, Key, Lacks, Missing, Tally
 from ._verdict import listed, lost_frames, missing_counts, number_of, said, said_of_two
 from .tool import State, about, shown
 
@@ -25,16 +23,15 @@ MOST_CLCWS = 12                                           # pairs of channels th
 
 
 class Recording:
-    """All that a page has of a recording, and its name on the page. With `kept` its packets are kept there."""
+    """All that a page has of a recording, and its name on the page."""
 
-    def __init__(self, kind: str, path: str, options: Sequence[str], kept: Optional[Packets] = None) -> None:
+    def __init__(self, kind: str, path: str, options: Sequence[str]) -> None:
         self.words, self.state = (kind, path, options), State(path)
         with about(path):
-            self.tally = Tally(kind, path, options, kept)
+            self.tally = Tally(kind, path, options)
 
     def surveyed(self, span: int = 0) -> "Recording":
-        """With what is counted of its frames; `span` are the octets of its picture, where it has fewer. It comes last,
-        as it may take as much memory as a comparison before it."""
+        """With what is counted of its frames; `span` are the octets of its picture, where it has fewer."""
         kind, path, options = self.words
         with about(path):
             self.survey = Survey(kind, path, options, span, self.state)
@@ -58,10 +55,8 @@ def report_of_one(kind: str, path: str, options: Sequence[str]) -> str:
 
 
 def report_of_two(kind: str, paths: Sequence[str], options: Sequence[Sequence[str]]) -> str:
-    with room("sllink-report") as folder:
-        here, there = (Packets(os.path.join(folder, side)) for side in "ab")
-        one, other = (Recording(kind, *its) for its in zip(paths, options, (here, there)))
-        lacks = Lacks(here, there, folder)
+    one, other = (Recording(kind, *its) for its in zip(paths, options))
+    lacks = Lacks(kind, paths, options)
     for it in one, other:
         it.surveyed(max(one.state.size, other.state.size))    # the pictures have one scale
     if one.name == other.name:                            # they get their paths as names, or else their places
@@ -237,19 +232,14 @@ def checked(survey: Survey) -> List[str]:
 
 def lacked(one: Recording, other: Recording, lacks: Lacks) -> List[str]:
     parts = [heading(2, "What each recording lacks")]
-    if lacks.same:
-        return parts + [paragraph("Nothing: on each channel both have the same packets in the same order."
+    if lacks.same or lacks.reordered:
+        order = "another" if lacks.reordered else "the same"
+        return parts + [paragraph(f"Nothing: both have the same packets on each channel, in {order} order."
                                   if one.tally.packets() else "Neither has a packet.")]
-    table = differing(one, other, lacks)
-    if table.rows:
-        parts.append(table.html())
+    parts.append(differing(one, other, lacks).html())
     if lacks.left:
         parts.append(paragraph(f"Only the {MOST_APIDS:,} APIDs of channels that come first are counted each.", "note"))
-    parts += runs(one, lacks, 1) + runs(other, lacks, 0)
-    if lacks.moved:
-        parts.append(paragraph(f"The packets in another order are on {', '.join(lacks.reordered())}. They are in the "
-                               "runs of each recording.", "note"))
-    return parts
+    return parts + runs(one, lacks.only[1]) + runs(other, lacks.only[0])
 
 
 def differing(one: Recording, other: Recording, lacks: Lacks) -> Table:
@@ -259,17 +249,15 @@ def differing(one: Recording, other: Recording, lacks: Lacks) -> Table:
     return Table("APIDs with missing packets",
                  ["Virtual channel", *["#MAP"] * with_map, "#APID", *(f"Packets in {name}" for name in names),
                   *(f"!Lacked by {name}" for name in names)],
-                 [[*columns(key, with_map), one.tally.of(key), other.tally.of(key), there - moved, here - moved]
-                  for key, (here, there, moved) in sorted(lacks.each.items()) if here > moved or there > moved])
+                 [[*columns(key, with_map), one.tally.of(key), other.tally.of(key), there, here]
+                  for key, (here, there) in sorted(lacks.each.items())])
 
 
-def runs(it: Recording, lacks: Lacks, side: int) -> List[str]:
-    """The packets that a recording lacks, or has in another order, in runs of the other side's sequence count."""
-    missing, number, moved = lacks.only[side], lacks.total(side), lacks.moved
+def runs(it: Recording, missing: Missing) -> List[str]:
+    """The packets that a recording lacks, in runs of the other one's sequence count."""
     if not missing.number:
         return [paragraph(f"{it.name} lacks no packet of the other.")]
-    words = f"{it.name} lacks {number_of(number, 'packet') if number else 'no packet'}"
-    words += f" and has {moved:,} in another order" if moved else ""
+    words = f"{it.name} lacks {number_of(missing.packets, 'packet')}"
     words += f", in {number_of(missing.number, 'run')} of the sequence count"
     if missing.number > MOST_RUNS:
         words += f"; the first {MOST_RUNS:,} of them"

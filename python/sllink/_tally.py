@@ -2,16 +2,19 @@
 
 from array import array
 from collections import defaultdict
-from typing import Counter, Dict, List, Optional, Sequence, Set, Tuple
+from typing import Dict, Iterable, List, Optional, Sequence, Tuple
 
-from ._compare.difference import Difference, Runs
-from ._compare.store import FIELDS, MOST_APIDS, Channel, Key, Packets, take
+from ._difference import REORDERED, SAME, compared
 from ._program import output_of
 from ._records import Run
 from .tool import Refused, shown
 
 MOST_RUNS = 200                                           # that are kept of what one recording lacks
-MOST_NAMES = 12                                           # of channels in a sentence
+MOST_APIDS = 16384                                        # that are counted each, as many as a downlink can have
+COUNTS = 16384                                            # of the packet sequence count
+
+Channel = Tuple[int, int]                                 # virtual channel and MAP (-1 for TM)
+Key = Tuple[int, int, int]                                # the same, and APID
 
 
 class Count:
@@ -26,9 +29,9 @@ class Count:
 
 
 class Tally:
-    """The packets of a recording. With `kept` they are kept there, to be compared with those of another one."""
+    """The packets of a recording."""
 
-    def __init__(self, kind: str, recording: str, options: Sequence[str], kept: Optional[Packets] = None) -> None:
+    def __init__(self, kind: str, recording: str, options: Sequence[str]) -> None:
         self.kind = kind
         self.counts: Dict[Key, Count] = {}                # of the APIDs that come first
         self.others, self.left = Count(), 0               # the packets of all others, and how many APIDs these are
@@ -36,10 +39,33 @@ class Tally:
         self._next: Dict[Channel, "array[int]"] = defaultdict(lambda: array("H", bytes(2 * 2048)))
         try:
             with output_of("packets", kind, recording, options) as listing:
-                take(listing, kept, self)
+                self._take(listing)
         except ValueError:
             raise Refused(f"{shown(recording)}: sllink: what it says of packets is no line of them") from None
         self._next.clear()
+
+    def _take(self, listing: Iterable[bytes]) -> None:
+        """Counts the lines of `packets`. ValueError: what is said is no line of them."""
+        known: Dict[bytes, Count] = {}                    # by the first words of a line
+        for line in listing:
+            # vc V [map M] apid A type T secondary S flags F count C octets N DIGITS
+            head, tail = line.split(b" count ", 1)
+            digits, _, octets, _ = tail.split(b" ", 3)
+            number = int(digits)
+            count = known.get(head)
+            if count is None:
+                count = self.count_of(key_of(head), number)
+                if count is not self.others:
+                    if len(known) == MOST_APIDS:
+                        known.clear()
+                    known[head] = count
+            count.packets += 1
+            count.octets += int(octets)
+            ahead = (number - count.last - 1) % COUNTS
+            if ahead:
+                count.jumps += 1
+                count.missing += ahead if ahead < COUNTS // 2 else 0
+            count.last = number
 
     def packets(self) -> int:
         return sum(count.packets for count in self.counts.values()) + self.others.packets
@@ -59,67 +85,38 @@ class Tally:
         return self.others
 
 
+def key_of(head: bytes) -> Key:
+    """The channel and the APID of a packet, by the first words of its line."""
+    words = head.split(b" ", 6)
+    return (int(words[1]), int(words[3]), int(words[5])) if words[2] == b"map" else (int(words[1]), -1, int(words[3]))
+
+
 class Missing:
-    """The packets that another recording lacks, or has in another order, and the first runs of these, of how many."""
+    """The packets that another recording lacks, and the first runs of these, of how many."""
 
     def __init__(self) -> None:
         self.packets = self.number = 0
         self.runs: List[Run] = []
 
 
-class Lacks(Difference):
-    """What each of two recordings has that the other one lacks."""
+class Lacks:
+    """What each of two recordings has that the other one lacks, as sllink-compare lists it."""
 
-    def __init__(self, one: Packets, other: Packets, folder: str) -> None:
-        super().__init__((one, other), folder)
+    def __init__(self, kind: str, recordings: Sequence[str], options: Sequence[Sequence[str]]) -> None:
         self.only = Missing(), Missing()
-        # Of the APIDs that come first: the packets that only one has, those that only the other has, and those of both
-        # that come in another order; whether there are further APIDs; the channels of those in another order.
+        # Of the APIDs that come first: the packets that only one has, and those that only the other has; and whether
+        # there are further APIDs.
         self.each: Dict[Key, List[int]] = {}
         self.left = False
-        self._channels: Set[Channel] = set()
-        self._lacks: Dict[Channel, Counter[int]] = {}     # by APID, where that is more than what is said of each
-        for run in self.runs():
-            side, key = "<>".index(run.side), key_of_run(run)
-            its = self.only[side]
-            its.packets += run.packets
-            its.number += 1
-            its.runs += [run] * (len(its.runs) < MOST_RUNS)
-            self._add(key, side, run.packets)
-        for key, numbers in self.each.items():
-            if key[:2] in self._lacks:
-                numbers[2] = numbers[0] - self._lacks[key[:2]][key[2]]
-                self._channels |= {key[:2]} if numbers[2] else set()
-        for its in self.only:
-            its.runs.sort(key=key_of_run)
-        self.same = not any(its.number for its in self.only)
-
-    def _add(self, key: Key, place: int, number: int) -> None:
-        if key in self.each or len(self.each) < MOST_APIDS:
-            self.each.setdefault(key, [0, 0, 0])[place] += number
-        else:
-            self.left = True
-
-    def move(self, channel: Channel, records: bytes, new: bytes) -> None:
-        super().move(channel, records, new)
-        self._channels.add(channel)
-        for (apid, _), it in zip(FIELDS.iter_unpack(records), new):
-            if not it:
-                self._add((*channel, apid), 2, 1)
-
-    def settle(self, channel: Channel, lacks: Counter[int]) -> None:
-        self._lacks[channel] = lacks
-
-    def total(self, side: int) -> int:
-        """How many packets only one of them has, the one of this side."""
-        return self.only[side].packets - self.moved
-
-    def reordered(self) -> List[str]:
-        """The channels with packets in another order, or the first of them and how many more there are."""
-        names = [Runs(channel).name for channel in sorted(self._channels)]
-        return names if len(names) <= MOST_NAMES else [*names[:MOST_NAMES], f"{len(names) - MOST_NAMES:,} more"]
-
-
-def key_of_run(run: Run) -> Key:
-    """The channel and the APID of a run."""
-    return run.vc, -1 if run.map is None else run.map, run.apid
+        with compared(kind, recordings, options) as (answer, runs):
+            self.same, self.reordered = answer == SAME, answer == REORDERED
+            for run in runs:
+                side, key = "<>".index(run.side), (run.vc, -1 if run.map is None else run.map, run.apid)
+                its = self.only[side]
+                its.packets += run.packets
+                its.number += 1
+                its.runs += [run] * (len(its.runs) < MOST_RUNS)
+                if key in self.each or len(self.each) < MOST_APIDS:
+                    self.each.setdefault(key, [0, 0])[side] += run.packets
+                else:
+                    self.left = True

@@ -88,13 +88,11 @@ def said_of_two(one: Any, other: Any, lacks: Lacks) -> str:
         return "Neither recording delivers a packet."
     if lacks.same:
         return f"Both recordings deliver the same {number_of(here, 'packet')}."
-    numbers, moved = (lacks.total(1), lacks.total(0)), lacks.moved
-    if not any(numbers):
-        return f"The recordings deliver the same packets in another order, on {listed(lacks.reordered())}."
+    if lacks.reordered:
+        return f"Both recordings deliver the same {number_of(here, 'packet')}, in another order."
     return ("The recordings deliver different packets: "
-            f"{one.name} lacks {some(numbers[0])} of the {there:,} in {other.name}, and "
-            f"{other.name} lacks {some(numbers[1])} of the {here:,} in {one.name}."
-            + (f" Both have {number_of(moved, 'packet')} in another order." if moved else ""))
+            f"{one.name} lacks {some(lacks.only[1].packets)} of the {there:,} in {other.name}, and "
+            f"{other.name} lacks {some(lacks.only[0].packets)} of the {here:,} in {one.name}.")
 
 
 def some(number: int) -> str:

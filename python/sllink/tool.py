@@ -107,14 +107,6 @@ def identified(recording: str) -> str:
                               if line.startswith(telling))])
 
 
-def command_of(recording: str) -> str:
-    """The command line that sllink-identify has for a recording, of several the first; nothing where it has none."""
-    *lines, last = _identify(recording)[1:] or [""]
-    if last.startswith("can't say: "):
-        return ""
-    return next((line for line in lines if line.startswith(("sllink", "tail "))), last)
-
-
 def _identify(recording: str) -> List[str]:
     """The lines of the sllink-identify that lies beside this tool, without the name; none where it can't be asked."""
     beside = os.path.join(os.path.dirname(os.path.realpath(sys.argv[0])), "sllink-identify")

@@ -12,7 +12,8 @@ import unittest
 from concurrent.futures import ThreadPoolExecutor
 
 import test_sllink
-from test_sllink import EXAMPLES, FIRST, PASS, READERS, RECORDINGS, STATION, compared, sllink, whole, written
+from test_sllink import (DIFFERENCES, EXAMPLES, FIRST, PASS, READERS, RECORDINGS, STATION, compared, otherwise, sllink,
+                         whole, written)
 
 try:
     LIBRARY = sllink.Library()
@@ -40,12 +41,12 @@ class ByTheLibrary(test_sllink.InAFolder):
             try:
                 return repr(whole(read(*words, **way)))
             except sllink.SllinkError as error:
-                return error.status, error.text
+                return error.status, error.text.partition(": ")[2]
 
         for edge in EDGES:
             options = sllink.Options(**{"scid": 1, "tm_length": 32, "tm_fecf": True, **edge})
             for kind in "tm", "tc":
-                for read in READERS:
+                for read in [*READERS, otherwise]:
                     with self.subTest(edge=edge, kind=kind, read=read):
                         self.assertEqual(answer(read, kind, FIRST, options, program=LIBRARY),
                                          answer(read, kind, FIRST, options))
@@ -58,6 +59,9 @@ class ByTheLibrary(test_sllink.InAFolder):
             self.refused(2, "there is no such call", sllink.lines, verb, kind, PASS, STATION, program=LIBRARY)
         with self.assertRaises(TypeError):
             list(sllink.frames("tm", PASS, ["--scid", "1"], program=LIBRARY))
+        for read in DIFFERENCES:
+            with self.assertRaisesRegex(TypeError, "a library has no call"):
+                whole(read("tm", FIRST, STATION, program=LIBRARY))
 
     def test_lengths(self):
         """Recordings of few octets, and one whose listing is much longer than it is."""

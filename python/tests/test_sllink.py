@@ -93,10 +93,14 @@ def compared(kind, recording, options, *others, **way):
     return sllink.same_packets(kind, recording, recording, options, *others, **way)
 
 
-READERS = [sllink.frames, checked, sllink.packets, normalised, compared,
-           lambda *words, **way: compared(*words, sllink.Options(1), **way),
-           lambda kind, it, *more, **way: sllink.difference(kind, it, FIRST, *more, **way),
-           lambda kind, it, *more, **way: sllink.difference(kind, FIRST, it, *more, **way)]
+def otherwise(*words, **way):
+    """Whether it has the packets of itself, read with other options, which sllink-compare tells."""
+    return compared(*words, sllink.Options(1), **way)
+
+
+READERS = [sllink.frames, checked, sllink.packets, normalised, compared]
+DIFFERENCES = [lambda kind, it, *more, **way: sllink.difference(kind, it, FIRST, *more, **way),
+               lambda kind, it, *more, **way: sllink.difference(kind, FIRST, it, *more, **way)]
 
 
 def whole(found):
@@ -361,7 +365,7 @@ class Recordings(Way):
                 *((it, OSError, errno.EBADF) for it in (-1, -2, -3, 2 ** 40)),
                 (reading("text"), TypeError), (reading(StopIteration), RuntimeError),
                 (reading(OSError(5, "it fails")), OSError, 5), (reading(None), BlockingIOError)):
-            for read in [*READERS, lambda _, it, *more, **way: octets_of(it)]:
+            for read in [*READERS, otherwise, *DIFFERENCES * (not self.by), lambda _, it, *more, **way: octets_of(it)]:
                 with self.subTest(it=it, read=read), self.assertRaises(fault) as raised:
                     whole(read("tm", it, STATION, program=self.by))
                 self.assertEqual([raised.exception.errno for _ in number], number)
@@ -447,6 +451,9 @@ class Ends(InAFolder):
         beside = str(self.program("", name="sllink-frames"))
         with unittest.mock.patch.dict(os.environ, SLLINK=str(self.program("")), SLLINK_FRAMES=""):
             self.assertEqual(find_beside("sllink-frames"), beside)
+        for read in DIFFERENCES:
+            self.refused(127, "isn't sllink-compare, .*SLLINK_COMPARE says", read, "tm", FIRST, STATION,
+                         program=sllink.find_program())
 
     def test_ended_within_the_listing(self):
         for end, status, said in (("kill -9 $$", -signal.SIGKILL, ""),
@@ -635,13 +642,13 @@ class Identifications(InAFolder):
 class Differences(Way):
     """What only one of two recordings has, and whether both have the same packets."""
 
-    def found(self, one, other, *options, kind="tm"):
-        """The runs. There are none exactly where the packets are the same."""
-        runs = list(sllink.difference(kind, one, other, *options, program=self.by))
+    def found(self, one, other, *options, kind="tm", reordered=False):
+        """The runs. Where there are none the packets are the same, but perhaps for their order."""
+        runs = list(sllink.difference(kind, one, other, *options))
         for it in one, other:
             if hasattr(it, "seek"):
                 it.seek(0)
-        self.assertIs(sllink.same_packets(kind, one, other, *options, program=self.by), not runs)
+        self.assertIs(sllink.same_packets(kind, one, other, *options, program=self.by), not (runs or reordered))
         return runs
 
     def test_runs(self):
@@ -663,12 +670,10 @@ class Differences(Way):
             self.assertEqual(sum(it.packets for it in found), written("packets", "tc", UPLINK, OF_UPLINK).count(b"\n"))
 
     def test_another_order(self):
-        """Packets that both have in another order are in a run of each, as sllink-compare has them."""
-        one, other = self.file("one", frames_of("abc")), self.file("other", frames_of("ba"))
-        found = [str(it) for it in self.found(one, other, sllink.Options(1, tm_length=32))]
-        _, said = ran("sllink-compare", "tm", one, other, "--scid", "1", "--tm-length", "32")
-        self.assertEqual(found, [line for line in said.splitlines() if line[0] in "<>"])
-        self.assertGreater(len(found), 1)
+        """Packets that both have aren't listed."""
+        one, options = self.file("one", frames_of("abc")), sllink.Options(1, tm_length=32)
+        for letters, runs in ("cba", []), ("ba", [sllink.Run("<", 0, None, 1, (99, 99), 1)]):
+            self.assertEqual(self.found(one, self.file("other", frames_of(letters)), options, reordered=True), runs)
 
     def test_options_of_its_own(self):
         """A station that keeps the error control field."""
@@ -676,20 +681,38 @@ class Differences(Way):
         options, its = sllink.Options(1, tm_length=32), sllink.Options(1, tm_length=34, tm_fecf=True)
         for letters, runs in ("abc", []), ("ac", [sllink.Run(">", 0, None, 1, (98, 98), 1)]):
             self.assertEqual(self.found(io.BytesIO(frames_of(letters)), keeps, options, its), runs)
+        self.assertEqual(self.found(io.BytesIO(frames_of("cba")), keeps, options, its, reordered=True), [])
         self.assertNotEqual(self.found(io.BytesIO(frames_of("abc")), keeps, options), [])
         self.assertEqual(self.found(FIRST, SECOND, STATION, sllink.Options(1, 32, tm_fecf=True, vr=3)), [])
+        for options in ["--scid", "x"], ["--spare"], ["--scid 1"], ["--hex"], ["-h"], []:
+            self.refused(2, "^sllink-compare: ", sllink.difference, "tm", FIRST, THIRD, options)
+
+    def test_names(self):
+        """Of any octets, and like an option."""
+        for name in b"\xff", b"line\nfeed", "Überflug".encode(), b"-h":
+            path = os.path.join(os.fsencode(self.folder), name)
+            shutil.copyfile(FIRST, path)
+            self.assertEqual(len(self.found(path, THIRD, STATION)), 1)
 
     def test_what_is_kept(self):
         """Nothing is left behind, also where the loop is left; where there is no room for it that is an OSError."""
         with unittest.mock.patch.object(tempfile, "tempdir", str(self.folder)):
-            runs = sllink.difference("tm", FIRST, os.devnull, STATION, program=self.by)
+            runs = sllink.difference("tm", io.BytesIO(FIRST.read_bytes()), os.devnull, STATION)
             next(runs)
-            self.assertEqual(len(list(self.folder.glob("sllink-*"))), 1)
+            self.assertEqual(len(list(self.folder.glob("sllink-*"))), 2)
             runs.close()
             self.assertEqual(list(self.folder.iterdir()), [])
         with unittest.mock.patch.object(tempfile, "tempdir", str(self.folder / "none")):
-            with self.assertRaisesRegex(OSError, "TMPDIR"):
-                self.found(FIRST, os.devnull, STATION)
+            self.assertRaises(OSError, self.found, FIRST, os.devnull, STATION)
+
+    def test_what_it_says(self):
+        """A program that stops, or says something else."""
+        version = "[ $1 != --version ] || { echo sllink-compare 1.0.0; exit; }\n"
+        for script, status, said in (("echo a; echo 'sllink-compare: read' >&2; exit 3", 3, "^sllink-compare: read$"),
+                                     ("echo a; echo b; echo same", 3, "the answer is missing"), ("exit 0", 3, ""),
+                                     ("kill -9 $$", -signal.SIGKILL, ""), ("exit 2", 2, "")):
+            program = self.program(script, version)
+            self.refused(status, said, sllink.difference, "tm", FIRST, THIRD, STATION, program=program)
 
 
 if __name__ == "__main__":

@@ -239,19 +239,6 @@ mistakes() {
   od -A n -v -t x1 pass.tm | tr -d ' \n' > hex.tm
 }
 
-# Those with options that are wrong for them, what their frames show against these, and what sllink-identify has for it.
-questions="\
-tm pass.tm --scid 679|--tm-fecf isn't given, and its frames have an error control field|sllink * --tm-fecf < pass.tm
-tm nofecf.tm --scid 679 --tm-fecf|--tm-fecf is given, and its frames have no error control field|sllink * 1115 < nof*
-tm pass.tm --scid 679 --tm-fecf --tm-length 1113|--tm-length is 1113, and its frames lie 1115 octets apart|sllink *
-tm pass.tm --scid 679 --tm-length=223|--tm-length is 223, and its frames lie 1115 octets apart|sllink check *
-tm small.tm --scid 679 --tm-length 200|--tm-length is 200, and its frames lie 100 octets apart|sllink * 100 < small.tm
-tm other.tm --scid 679 --tm-fecf|--scid is 679, and most of its frames are of spacecraft 341|sllink * --scid 341 *
-tm mixed.tm --scid 679 --tm-fecf|its frames are randomised|sllink-frames *
-tm asm.tm --scid 679 --tm-fecf|there are sync markers (1ACFFC1D) between its frames|sllink-frames *
-tc pass.tc --scid 679|--tc-fecf isn't given, and its frames have an error control field|sllink check tc *--tc-fecf*
-tc pass.tc --scid 5 --tc-fecf|--scid is 5, and most of its frames are of spacecraft 679|sllink check tc --scid 679 *"
-
 first=examples/first-station.tm second=examples/second-station.tm third=examples/third-station.tm
 uplink=examples/uplink.tc
 tm=(--scid 1 --tm-length 32 --tm-fecf)

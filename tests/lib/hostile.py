@@ -13,7 +13,7 @@ import runpy
 import struct
 import sys
 from argparse import ArgumentParser
-from itertools import chain, compress, count, cycle, islice
+from itertools import compress, count, cycle, islice
 from operator import itemgetter
 from random import Random
 from typing import Any, Callable, Dict, Iterable, Iterator, NamedTuple, Tuple
@@ -154,31 +154,6 @@ def shuffled(it: Asked) -> Iterator[bytes]:
                   for turn, left in enumerate(ends))
 
 
-def exchanged(it: Asked, marks: bytes) -> Iterator[bytes]:
-    unlike = Unlike(it, marks)
-    cut = unlike.number // 2 * it.side
-    return framed(chain(unlike.span(cut, unlike.number), unlike.span(0, cut)))
-
-
-def far_between(it: Asked) -> Iterator[bytes]:
-    unlike = Unlike(it, (bytes([0] + [1 + it.side] * 4096) * 16)[:SOME])
-    return framed(chain([PACKET * 40 * it.side], unlike.span(0, unlike.number)))
-
-
-def counts_at_random(it: Asked) -> Iterator[bytes]:
-    return framed(it.losing(PACKET, {2: it.noise(SOME, 64, 0xC0), 3: it.noise(), 6: it.noise()}) for _ in count())
-
-
-def apids_apart(it: Asked) -> Iterator[bytes]:
-    row, marks = packet(1 + it.side, 0, b"\0"), it.noise()
-
-    def blocks() -> Iterator[bytes]:
-        for turn in count():
-            high, low = halves(((turn * 3999 + at) % 16384 for at in range(3999)), 0xC0)
-            yield rows(row, {2: high, 3: low, 6: marks[turn % 99:][:3999]}) + packet(3, turn, b"\0")
-    return framed(blocks())
-
-
 def apids_in_turn(it: Asked) -> Iterator[bytes]:
     high, low = (column * 32 for column in halves(range(2046)))
     turns = [bytes(at for at in range(start, start + 32) for _ in range(2046)) for start in range(0, 256, 32)]
@@ -187,28 +162,10 @@ def apids_in_turn(it: Asked) -> Iterator[bytes]:
                             (0, 1)) for turn in count())
 
 
-def equal_shifted(it: Asked) -> Iterator[bytes]:
-    equal = packet(it.chance.randrange(1000), it.chance.randrange(16384), b"\0")
-    return framed(chain([PACKET[:7 * (1 - it.side)]], cycle([equal * SOME])))
-
-
-def runs_in_turn(it: Asked) -> Iterator[bytes]:
-    chance, some = it.own().chance, [packet(at // 4, at % 4, b"\0") for at in range(256)]
-    return framed(b"".join(one * chance.randrange(1, 200) for one in some) for _ in count())
-
-
 def cycle_shifted(it: Asked) -> Iterator[bytes]:
     octets = b"".join(islice(COSTLY["short_packets"](1), 16384))
     begin = 7 * it.chance.randrange(5000, 11000) * it.side
     return framed(cycle([octets[begin:] + octets[:begin]]))
-
-
-def interleaved(it: Asked) -> Iterator[bytes]:
-    some = b"".join(islice(COSTLY["short_packets"](it.chance.randrange(2047)), 16384)) * 2
-    channels = list(range(7))[::1 - 2 * it.side]
-    for turn in count():
-        field = some[turn * ROOM % (7 * 16384):][:ROOM]
-        yield b"".join(tm(vc, 7 * turn + at, turn, 0, field) for at, vc in enumerate(channels))
 
 
 def longest_packets(it: Asked) -> Iterator[bytes]:
@@ -273,22 +230,10 @@ SHAPES = {name: Shape(kind, ("--scid", "1", *words.split()) * (kind != "paths"),
         ("reversed", lambda it: Unlike(it).framed(1 - 2 * it.side),
          f"{ALL}, all in both, the second time from the last one on"),
         ("shuffled", shuffled, f"{ALL}, all in both, the second time in another order"),
-        ("exchanged", lambda it: exchanged(it, bytes(SOME)), f"{ALL}, all in both, then the second half first"),
-        ("every-second", lambda it: Unlike(it, bytes([0, 1 + it.side]) * (SOME // 2)).framed(),
-         f"{ALL}, every second one in both"),
-        ("every-second-exchanged", lambda it: exchanged(it, bytes([0, 1 + it.side]) * (SOME // 2)),
-         f"{ALL}, every second one in both, then the second half first"),
-        ("far-between", far_between, f"{ALL}, one in 4097 in both, a little farther on the second time"),
-        ("counts-at-random", counts_at_random, "packets of one APID, of which the second recording lacks one in ten"),
-        ("apids-apart", apids_apart, "another APID in each recording, and one packet in 4000 of a third one in both"),
         ("apids-in-turn", apids_in_turn, "2046 APIDs in turn, each recording lacks another packet in ten"),
-        ("equal-shifted", equal_shifted, "packets that are all equal, after another one in the first recording"),
         ("equal-apart", lambda it: framed(cycle([packet(5, 0, bytes([it.side])) * SOME])),
          "packets that are all equal, other ones in each recording"),
-        ("runs-in-turn", runs_in_turn, "runs of one packet in turn, of other lengths in each recording"),
         ("cycle-shifted", cycle_shifted, "the same 16384 packets over and over, from another one on the second time"))),
-    ("tm", "--tm-length 1112", 7 * FULL, True, (
-        ("interleaved", interleaved, "the same packets on seven channels, whose frames come in another order"),)),
     ("tm", "--tm-length 2048", 2048, True, (
         ("longest-packets", longest_packets, "packets of 65542 octets, every second one ends otherwise"),)),
     ("tc", "--tc-length 16", 13, True, (

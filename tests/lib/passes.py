@@ -10,15 +10,12 @@ segments. Another station that saw the same pass has the same words but for --st
 """
 
 import argparse
-import os
 import random
 import sys
 from functools import partial
 
 import recordings
-
-sys.path.insert(0, f"{os.path.dirname(os.path.realpath(__file__))}/../../python")
-from sllink._signs import MARKER, randomiser, tc_randomiser, unmasked
+from stations import MARKER, TC, TM, mixed
 
 # Each word with its value where it is left out.
 WORDS = (
@@ -110,9 +107,9 @@ def recorded(line=None):
         way = {"action": "store_true"} if value is False else {"type": type(value), "default": value}
         parser.add_argument(f"--{name}", help=what, **way)
     words = parser.parse_args(line)
-    frames, mask = (downlink, randomiser()) if words.kind == "tm" else (uplink, tc_randomiser())
+    frames, table = (downlink, TM) if words.kind == "tm" else (uplink, TC)
     for frame in received(frames(words), words):
-        yield MARKER * words.marked + unmasked(frame, mask * words.randomised)
+        yield MARKER * words.marked + (mixed(frame, table) if words.randomised else frame)
 
 
 if __name__ == "__main__":

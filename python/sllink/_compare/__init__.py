@@ -1,1 +1,0 @@
-"""Two recordings compared: which packets only one of them has."""

@@ -146,39 +146,8 @@ def tc_frames(random, frames, scid, longest, fecf, vcs, plain, starts):
         yield waiting.pop(0)
 
 
-def strange(random, frame):
-    """Octets that belong to no frame, fewer than a frame has. Some look like the beginning of a header."""
-    length = random.choice((1, random.randint(1, 9), random.randint(1, len(frame) - 1)))
-    if random.random() < 0.2:
-        return (frame[:2] + bytes([0, 2]) + data(random, length, "zeros"))[:length]
-    return data(random, length, random.choice(("zeros", "fill", "ramp", "noise")))
-
-
-def cut(random, frames, whole, cuts):
-    """The frames, at so many of which octets are missing or too many, between frames or within one. The octets; and
-    those of the whole frames that still are so."""
-    parts, whole = list(frames), list(whole)
-    for place in sorted(random.sample(range(len(frames)), min(cuts, len(frames))), reverse=True):
-        frame, what = frames[place], random.randrange(4)
-        at = random.randrange(1, len(frame))
-        if what == 0:                                        # too many between two frames
-            parts[place] += strange(random, frame)
-            continue
-        whole[place] = False
-        if what == 1:                                        # too many within a frame
-            parts[place] = parts[place][:at] + strange(random, frame) + parts[place][at:]
-        elif what == 2 or place + 1 == len(frames):          # missing within a frame
-            parts[place] = parts[place][:at] + parts[place][random.randint(at + 1, len(frame)):]
-        else:                                                # missing at the end of a frame and the front of the next
-            whole[place + 1] = False
-            parts[place] = parts[place][:at]
-            parts[place + 1] = parts[place + 1][random.randrange(1, len(frames[place + 1])):]
-    return b"".join(parts), [frame for frame, is_whole in zip(frames, whole) if is_whole]
-
-
-def recording(random, kind, frames=None, noise=None, cuts=0):
-    """A random recording. `noise` is the share of the frames that are lost, and of those that have bit errors. Octets
-    are missing or too many at `cuts` frames."""
+def recording(random, kind, frames=None, noise=None):
+    """A random recording. `noise` is the share of the frames that are lost, and of those that have bit errors."""
     losses, errors = (noise, noise) if noise is not None else (random.choice((0, random.random() / 20)) for _ in "12")
     scid = random.choice((0, 1, 1023, *(random.randrange(1024) for _ in range(17))))
     fecf = random.random() < 0.5
@@ -197,5 +166,5 @@ def recording(random, kind, frames=None, noise=None, cuts=0):
     sent = [(frame, random.random() >= errors) for frame in sent if random.random() >= losses]
     kept = [frame if is_whole else flipped(random, frame) for frame, is_whole in sent]
     length = max(map(len, kept), default=0)
-    octets, whole = cut(random, kept, [is_whole for _, is_whole in sent], cuts)
-    return Recording(kind, octets, scid, length, fecf, tuple(plain), starts, len(kept), whole)
+    whole = [frame for frame, is_whole in sent if is_whole]
+    return Recording(kind, b"".join(kept), scid, length, fecf, tuple(plain), starts, len(kept), whole)

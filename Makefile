@@ -221,11 +221,11 @@ bench:
 quick:
 	for crate in sl_tests sl_link_tests sllink; do (cd crates/$$crate && rt try --test) || exit 1; done
 
-# Quotes what the library crates promise in CONTRACTS, a page for each. Where a change of the sources leaves these pages
-# as they are, no contract is gone, and none is weaker. It wants neither the program nor the kit.
-CONTRACTS = docs/contracts
+# Quotes what the crates promise, in docs/contracts.md: where a change of the sources leaves that page as it is, no clause
+# is gone or another. In a folder CONTRACTS it writes a page for each crate, with the definitions that its clauses cite.
+# It wants neither the program nor the kit.
 contracts:
-	@python3 -B tests/lib/contracts.py "$(CONTRACTS)"
+	@python3 -B tests/lib/contracts.py $(CONTRACTS)
 
 # The gate, then the programs, and all that is tried on them. The last line counts both.
 check:

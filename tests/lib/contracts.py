@@ -1,12 +1,13 @@
 #!/usr/bin/env python3
-"""Quotes what the library crates promise, so that a change of a promise is a difference between two folders.
+"""Quotes what the crates promise, so that a change of a promise is a change of a page.
 
-    python3 tests/lib/contracts.py FOLDER [ROOT]
+    python3 tests/lib/contracts.py [FOLDER [ROOT]]
 
-writes FOLDER/CRATE.md for each library of crates.txt: its public types, traits and calls, module by module, each call
-with its clauses, and then those definitions of its specs/ that the clauses of these crates cite, directly or through
-others. Comments in contracts, line breaks in clauses and what is private are left out. ROOT is the repository, or a
-state of it, as `git archive COMMIT | tar x -C ROOT` writes it.
+writes docs/contracts.md, which tests/reading compares: the public types, traits and calls of each crate of crates.txt
+(of a program the calls between its modules), module by module, each call with its clauses. Comments, line breaks
+in clauses and what is private are left out. With a FOLDER it writes FOLDER/CRATE.md in its place, which also have those
+definitions of specs/ that the clauses cite, directly or through others. ROOT is the repository, or a state of it, as
+`git archive COMMIT | tar x -C ROOT` writes it.
 """
 
 import re
@@ -15,6 +16,14 @@ from functools import lru_cache
 from pathlib import Path
 from typing import Dict, Iterator, List, NamedTuple, Optional, Set, Tuple
 
+ROOT = Path(__file__).resolve().parents[2]
+PAGE = """# Contracts
+
+`make contracts` writes this page: the public types and calls of each crate, each call with its clauses as `src/` has
+them, but for comments and line breaks. `specs/` defines the words. `x.old` is what `x` was at the call, `x.new` what it
+is at the return, and `x.now` the value of what isn't changed; `result` is the answer. [proofs.md](proofs.md) says which
+clause carries which promise.
+"""
 Name = Tuple[str, str, str]                                # a crate, a file of its specs/ as Io.Lines, a name there
 LITERAL = r'b?"(?:\\.|[^"\\])*"|b?\'(?:\\[^\']+|[^\\\'\n])\''
 PASSED_OVER = r"//[^\n]*|/\*.*?\*/|#\[cfg\(test\)\]\s*mod \w+;|#!?\[[^]]*\]"
@@ -158,25 +167,28 @@ class Repository:
                 self.cite(name, {name: (*library.imports[module][:2], name)})
 
     def calls(self, crate: str) -> Iterator[str]:
+        root = "lib" if (self.crates / crate / "src/lib.rt").exists() else "main"
         modules = []                                       # type: List[Tuple[List[str], bool, Source, List[Item]]]
         paths = [([], True)]                               # type: List[Tuple[List[str], bool]]
         for path, public in paths:
-            file = self.crates / crate / "src" / ("/".join(path or ["lib"]) + ".rt")
+            file = self.crates / crate / "src" / ("/".join(path or [root]) + ".rt")
             source = Source(file.read_text() if file.exists() else "")
             items = list(source.items(0, len(source.text)))
-            paths += [(path + [item.name], public and item.public) for item in items if item.kind == "mod"]
+            paths += [(path + [item.name], root == "main" or public and item.public) for item in items
+                      if item.kind == "mod"]
             modules.append((path, public, source, items))
         modules.sort(key=lambda module: module[0])
         onward = {(path.split("::")[-1], name) for _, public, source, _ in modules if public
                   for path, names in re.findall(r"^pub use ([\w:]+)::(.*?);", source.shape, re.M | re.S)
                   for name in re.findall(r"\w+", names)}
         types = {item.name for path, public, _, items in modules for item in items
-                 if item.public and (public or (path[-1], item.name) in onward)}
+                 if root == "lib" and item.public and (public or (path[-1], item.name) in onward)}
         for path, public, source, items in modules:
             cited: Set[str] = set()
-            lines = [line for item in items if item.kind == "extern" or item.kind == "impl" and item.name in types
-                     or item.public and item.kind not in ("use", "mod") and (public or (path[-1], item.name) in onward)
-                     for line in source.lines(item, cited)]
+            quoted = [list(source.lines(item, cited)) for item in items if item.kind == "extern"
+                      or item.kind == "impl" and item.name in types or item.public and item.kind not in ("use", "mod")
+                      and (public or (path[-1], item.name) in onward) and (root == "lib" or item.kind == "fn")]
+            lines = [line for its in quoted if its[1:] or root == "lib" and its[0][:4] != "impl" for line in its]
             for word in cited:
                 self.cite(word, imports_of(source.text))
             if lines:
@@ -189,12 +201,21 @@ class Repository:
             yield f"## specs/{module.replace('.', '/')}.antt\n\n```antt\n{text}\n```\n"
 
 
+def page(root: Path = ROOT) -> str:
+    """docs/contracts.md."""
+    repository = Repository(root)
+    return "\n".join([PAGE, *(text for crate in repository.names for text in repository.calls(crate))])
+
+
 if __name__ == "__main__":
-    if len(sys.argv) not in (2, 3):
+    if len(sys.argv) > 3:
         sys.exit(__doc__)
-    repository = Repository(Path(sys.argv[2] if len(sys.argv) == 3 else Path(__file__).resolve().parents[2]))
-    calls = {crate: list(repository.calls(crate)) for crate in repository.names}
-    Path(sys.argv[1]).mkdir(parents=True, exist_ok=True)
-    for crate in filter(calls.get, calls):
-        page = [f"# {crate}\n\n`make contracts` wrote this page.\n", *calls[crate], *repository.definitions(crate)]
-        Path(sys.argv[1], f"{crate}.md").write_text("\n".join(page))
+    if len(sys.argv) == 1:
+        (ROOT / "docs/contracts.md").write_text(page())
+    else:
+        whole = Repository(Path(sys.argv[2]) if len(sys.argv) == 3 else ROOT)
+        calls = {crate: list(whole.calls(crate)) for crate in whole.names}
+        Path(sys.argv[1]).mkdir(parents=True, exist_ok=True)
+        for crate in filter(calls.get, calls):
+            text = "\n".join([f"# {crate}\n", *calls[crate], *whole.definitions(crate)])
+            Path(sys.argv[1], f"{crate}.md").write_text(text)

@@ -4,10 +4,10 @@
     python3 tests/lib/contracts.py [FOLDER [ROOT]]
 
 writes docs/contracts.md, which tests/reading compares: the public types, traits and calls of each crate of crates.txt
-(of a program the calls between its modules), module by module, each call with its clauses. Comments, line breaks
-in clauses and what is private are left out. With a FOLDER it writes FOLDER/CRATE.md in its place, which also have those
-definitions of specs/ that the clauses cite, directly or through others. ROOT is the repository, or a state of it, as
-`git archive COMMIT | tar x -C ROOT` writes it.
+(of a program the calls between its modules, and those of main), module by module, each call with its clauses. Comments,
+line breaks in clauses and what is private are left out. With a FOLDER it writes FOLDER/CRATE.md in its place, which also
+have those definitions of specs/ that the clauses cite, directly or through others. ROOT is the repository, or a state of
+it, as `git archive COMMIT | tar x -C ROOT` writes it.
 """
 
 import re
@@ -186,8 +186,10 @@ class Repository:
         for path, public, source, items in modules:
             cited: Set[str] = set()
             quoted = [list(source.lines(item, cited)) for item in items if item.kind == "extern"
-                      or item.kind == "impl" and item.name in types or item.public and item.kind not in ("use", "mod")
-                      and (public or (path[-1], item.name) in onward) and (root == "lib" or item.kind == "fn")]
+                      or item.kind == "impl" and item.name in types
+                      or root == "main" and item.kind == "fn" and (item.public or not path)
+                      or root == "lib" and item.public and item.kind not in ("use", "mod")
+                      and (public or (path[-1], item.name) in onward)]
             lines = [line for its in quoted if its[1:] or root == "lib" and its[0][:4] != "impl" for line in its]
             for word in cited:
                 self.cite(word, imports_of(source.text))

@@ -20,6 +20,7 @@ stopped, or Options would be refused. What came before it is the beginning of th
 
 __version__ = "1.0.0"
 
+from ._counts import counts
 from ._fault import SllinkError
 from ._identify import Identification, identify
 from ._library import Library, Recording
@@ -27,7 +28,6 @@ from ._options import Options, Words
 from ._program import find_program, lines
 from ._read import Anomalies, anomalies, difference, frames, normal_form, packets, same_packets, station_frames
 from ._records import Anomaly, Clcw, Count, Frame, Packet, Remainder, Run, Skip, StationTotals, TcFrame, TmFrame, Totals
-from ._counts import counts                                 # after what takes more where memory is short
 
 __all__ = [
     "Anomalies", "Anomaly", "Clcw", "Count", "Frame", "Identification", "Library", "Options", "Packet", "Recording",

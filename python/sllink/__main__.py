@@ -9,12 +9,11 @@ option may be wrong; 2 with one line where the recording can't be read or sllink
 The program is $SLLINK, else `sllink` on the PATH, else the one installed with this module or built in the repository.
 """
 
-import errno
 from typing import List
 
 from . import counts, packets
 from ._questions import silent_one
-from .tool import Refused, about, complain, is_option, reason_of, require_name, run
+from .tool import Refused, about, complain, is_option, require_name, run
 
 NAME = "python3 -m sllink"
 
@@ -23,13 +22,8 @@ def main(words: List[str]) -> int:
     if len(words) < 2 or words[0] not in ("tm", "tc") or is_option(words[1]):
         raise Refused(f"usage: {NAME} tm|tc RECORDING --scid N [OPTION..]")
     require_name(words[1])
-    try:
-        with about(words[1]):
-            found = counts(packets(words[0], words[1], words[2:]))
-    except OSError as error:
-        if error.errno not in (errno.EFBIG, errno.ENOSPC, errno.EDQUOT):
-            raise
-        raise Refused(f"what is kept in between doesn't fit into $TMPDIR: {reason_of(error)}") from None
+    with about(words[1]):
+        found = counts(packets(words[0], words[1], words[2:]))
     for count in found:
         print(count)
     if not found:

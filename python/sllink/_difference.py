@@ -5,9 +5,10 @@ import os
 import stat
 import tempfile
 from itertools import islice
-from typing import Any, Iterator, Sequence, Tuple
+from typing import Any, Dict, Iterator, List, Sequence, Tuple
 
 from ._check_words import CHECK_WORDS
+from ._counts import Key
 from ._fault import SllinkError
 from ._library import Recording, next_of, require_open
 from ._options import Words, words_of
@@ -16,6 +17,7 @@ from ._records import Run, run_of
 
 NAME = "sllink-compare"
 ALLOWED = ",".join([*CHECK_WORDS, "options", "nothing", "most"])     # all that it asks
+MOST_RUNS = 200                                           # that are kept of what one recording lacks
 SAME, REORDERED, DIFFERENT = b"same packets\n", b"same packets in another order\n", b"different packets: "
 
 
@@ -65,3 +67,28 @@ def _path_of(recording: Recording, kept: contextlib.ExitStack) -> str:
         file.write(octets)
     file.flush()
     return file.name
+
+
+class Missing:
+    """The packets that another recording lacks, and the first runs of these, of how many."""
+
+    def __init__(self) -> None:
+        self.packets = self.number = 0
+        self.runs: List[Run] = []
+
+
+class Lacks:
+    """What each of two recordings has that the other one lacks, as sllink-compare lists it."""
+
+    def __init__(self, kind: str, recordings: Sequence[str], options: Sequence[Sequence[str]]) -> None:
+        self.only = Missing(), Missing()
+        self.each: Dict[Key, List[int]] = {}              # packets that only one has, and those that only the other has
+        with compared(kind, recordings, options) as (answer, runs):
+            self.same, self.reordered = answer == SAME, answer == REORDERED
+            for run in runs:
+                side, key = "<>".index(run.side), (run.vc, -1 if run.map is None else run.map, run.apid)
+                its = self.only[side]
+                its.packets += run.packets
+                its.number += 1
+                its.runs += [run] * (len(its.runs) < MOST_RUNS)
+                self.each.setdefault(key, [0, 0])[side] += run.packets

@@ -7,7 +7,7 @@ from xml.sax.saxutils import escape, quoteattr
 from ._check_words import CELLED, MARKS
 from ._survey import ABOUT, BINS, FLAGS, MARKED, NOT_READ, Mark, Survey
 
-WIDTH, LEFT, MARGIN, ENDS = 1100, 120, 24, 104            # of the picture, the labels, the right margin, the rows' ends
+WIDTH, LEFT, RIGHT = 1100, 120, 996                       # of the picture; where its rows begin and end
 CELL, MARK, BAR, SPACE = 26, 14, 6, 16                    # heights: of a cell, a mark, a bar, between rows
 FULL = 10                                                 # frames that a cell of several has at least, as a rule
 WIDEST = 12                                               # stretches that are taken together for that, at most
@@ -68,21 +68,16 @@ class Sign(NamedTuple):
 
 
 class Picture:
-    """A picture of a survey. Pictures on one page want an `ident` each, and `heading` False where the page has heading
-    and legend. They all end at the same place."""
+    """A picture of a survey. Pictures on one page want an `ident` each."""
 
-    def __init__(self, survey: Survey, ident: str = "rest", heading: bool = True) -> None:
-        self.survey, self.ident, self.heading = survey, ident, heading
-        ends = not heading or any(what in ("gap", "open") for _, what in survey.marks)
-        self.right = WIDTH - (ENDS if ends else MARGIN)   # where the cells end
+    def __init__(self, survey: Survey, ident: str) -> None:
+        self.survey, self.ident = survey, ident
         self.used: Set[str] = set()
         self.coarse = 1                                   # stretches in which marks are joined
 
     def draw(self) -> str:
-        parts, y = (self._heading(), 82) if self.heading else ([], 8)
-        rows, end = self._rows(y)
-        legend, height = self._legend(end + 50) if self.heading else ([], end + 28)
-        return self._document([*parts, *rows, *self._axis(end), *legend], height)
+        rows, end = self._rows(8)
+        return self._document([*rows, *self._axis(end)], end + 28)
 
     def _rows(self, top: int) -> Tuple[List[str], int]:
         """The rows, coarser where they would be too many octets."""
@@ -98,16 +93,8 @@ class Picture:
                 return self._rows(top)
         return parts, y
 
-    def _heading(self) -> List[str]:
-        survey = self.survey
-        totals = (f"frames {survey.frames} skipped {survey.skipped} packets {survey.packets} idle {survey.idle}"
-                  f" anomalies {sum(survey.anomalies.values())}")
-        asked = " ".join([survey.kind, *survey.options])
-        return [text(16, 28, survey.name, size=16, weight="bold"),
-                text(16, 48, f"{asked}    {survey.size} octets", kind="soft"), text(16, 66, totals, kind="soft")]
-
     def x(self, offset: float) -> float:
-        return LEFT + (self.right - LEFT) * min(offset, self.survey.span) / self.survey.span
+        return LEFT + (RIGHT - LEFT) * min(offset, self.survey.span) / self.survey.span
 
     def _row(self, row: int, y: int) -> Tuple[List[str], int]:
         survey = self.survey
@@ -117,7 +104,7 @@ class Picture:
         self.used |= set(found) | set(flags) | set(survey.of_row(row))
         y += MARK * len(levels)
         parts = [box(LEFT, y, self.x(survey.size) - LEFT, CELL, "row"),
-                 f'<path class="line" d="M{LEFT} {y + CELL + 0.5}H{self.right}"/>']
+                 f'<path class="line" d="M{LEFT} {y + CELL + 0.5}H{RIGHT}"/>']
         for level, what in enumerate(levels):
             parts += self._marks(row, what, y - MARK * (len(levels) - level) + MARK / 2 - 1)
         parts += self._short_cells(row, y) if survey.is_short else self._long_cells(row, y)
@@ -142,13 +129,13 @@ class Picture:
         middle = y + CELL / 2
         parts = []
         if lost is not None:
-            parts.append(text(self.right + 8, middle + (-2 if opened else 4), f"{lost:,} lost", size=11,
+            parts.append(text(RIGHT + 8, middle + (-2 if opened else 4), f"{lost:,} lost", size=11,
                               weight="bold", kind="lost"))
         if opened:
             y_open = middle + (0 if lost is None else 8)
             mark = next(iter(opened.values()))
             words = f"{mark.lines[0].split()[-1]} octets" if mark.number == 1 else f"{mark.number} times"
-            parts += sign("open", Sign(self.right + 12, words, "\n".join(mark.lines)), y_open)
+            parts += sign("open", Sign(RIGHT + 12, words, "\n".join(mark.lines)), y_open)
         return parts
 
     def _short_cells(self, row: int, y: int) -> List[str]:
@@ -250,7 +237,7 @@ class Picture:
         step = 1
         while self.survey.span / step > 12:
             step = step * 2 if str(step)[0] in "15" else step * 5 // 2
-        parts = [f'<path class="axis" d="M{LEFT} {y}H{self.right}"/>']
+        parts = [f'<path class="axis" d="M{LEFT} {y}H{RIGHT}"/>']
         for offset in range(0, self.survey.span + 1, step):
             x, words = self.x(offset), f"{offset:,}"
             parts.append(f'<path class="axis" d="M{x:.1f} {y}v5"/>')
@@ -275,31 +262,17 @@ class Picture:
         return "" if self.survey.is_short else ("A cell is several frames, divided by what they are; in each row the "
                                                 "cell with the most of them has the whole height.")
 
-    def _legend(self, y: int) -> Tuple[List[str], int]:
-        parts, x = [], float(LEFT)
-        for words, swatch in self.keys():
-            wide = 24 + width(words, 12) + 18
-            if x + wide > WIDTH and x > LEFT:
-                x, y = LEFT, y + 20
-            parts.append(f'<g transform="translate({x:.1f} {y})">{"".join(swatch)}{text(24, 0, words)}</g>')
-            x += wide
-        if self.note():
-            y += 22
-            parts.append(text(LEFT, y, self.note(), kind="soft"))
-        return parts, y + 18
-
     def _document(self, parts: Sequence[str], height: int) -> str:
         about = f"Virtual channels of {self.survey.name} over its octets"
         head = [
             f'<svg xmlns="http://www.w3.org/2000/svg" viewBox="0 0 {WIDTH} {height}" width="{WIDTH}" height="{height}"'
             f' class="pass" role="img" aria-label={quoteattr(about)}>',
-            f"<style>{STYLE}</style>" if self.heading else "",
             f'<defs><pattern id="{self.ident}" width="6" height="6" patternUnits="userSpaceOnUse"'
             ' patternTransform="rotate(45)"><rect class="rest-back" width="6" height="6"/>'
             '<rect class="rest-line" width="2" height="6"/></pattern></defs>',
             '<rect class="page" width="100%" height="100%"/>',
         ]
-        return "\n".join([*filter(None, head), *parts, "</svg>\n"])
+        return "\n".join([*head, *parts, "</svg>\n"])
 
 
 def sums_beside(marks: Sequence[Sign], follow: Sequence[float]) -> List[str]:

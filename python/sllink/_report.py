@@ -4,61 +4,52 @@ import hashlib
 from typing import Counter, List, Sequence, Tuple
 
 from ._check_words import meaning_of
+from ._counts import Key
+from ._difference import MOST_RUNS, Lacks, Missing
 from ._page import Table, facts, figure, folded, heading, listing, page, paragraph, verdict
 from ._picture import Picture
 from ._questions import questions
 from ._survey import MOST_LINES, MOST_LOCKOUTS, NOT_READ, Reports, Survey
-from ._tally import MOST_APIDS, MOST_RUNS, Key, Lacks, Missing, Tally
 from ._verdict import listed, lost_frames, missing_counts, number_of, said, said_of_two
 from .tool import State, about, shown
 
 JUMPS = "A jump is a packet sequence count that isn't the one that comes next, modulo 16384. Idle packets are left out."
 SEVERAL = (" Some APIDs come on more than one channel or MAP. Where their counts go on from one to another, there are "
            "jumps though no packet is missing.")
-FIRST = f" Only the {MOST_APIDS:,} APIDs of channels that come first are counted each. The sums are those of all."
 MISSING = ("Missing counts are known by the virtual channel frame counts, modulo 256 at each gap, and none are known "
            "before the first frame and after the last one. The picture has them beside the marks of gaps.")
 
 MOST_CLCWS = 12                                           # pairs of channels that are all shown
 
 
-class Recording:
-    """All that a page has of a recording, and its name on the page."""
+class Recording(Survey):
+    """All that a page has of a recording."""
 
-    def __init__(self, kind: str, path: str, options: Sequence[str]) -> None:
-        self.words, self.state = (kind, path, options), State(path)
+    def __init__(self, kind: str, path: str, options: Sequence[str], state: State, span: int = 0) -> None:
         with about(path):
-            self.tally = Tally(kind, path, options)
-
-    def surveyed(self, span: int = 0) -> "Recording":
-        """With what is counted of its frames; `span` are the octets of its picture, where it has fewer."""
-        kind, path, options = self.words
-        with about(path):
-            self.survey = Survey(kind, path, options, span, self.state)
+            super().__init__(kind, path, options, state, span)
         digest = hashlib.sha256()
         with open(path, "rb") as file:
             for octets in iter(lambda: file.read(1 << 16), b""):
                 digest.update(octets)
         self.digest = digest.hexdigest()
-        self.asked = questions(self.survey)
-        self.state.require_unchanged()
-        self.name = self.survey.name
-        return self
+        self.asked = questions(self)
+        state.require_unchanged()
 
 
 def report_of_one(kind: str, path: str, options: Sequence[str]) -> str:
-    it = Recording(kind, path, options).surveyed()
-    return page(f"{it.name}: {number_of(it.survey.frames, 'frame')}, {number_of(it.tally.packets(), 'packet')}", [
+    it = Recording(kind, path, options, State(path))
+    return page(f"{it.name}: {number_of(it.frames, 'frame')}, {number_of(it.packets, 'packet')}", [
         "<header>", heading(1, it.name), read_as(it), "</header>",
-        verdict(said(it.survey, it.tally), it.asked, not it.survey.anomalies), facts(facts_of(it)),
+        verdict(said(it), it.asked, not it.anomalies), facts(facts_of(it)),
         heading(2, "Picture"), pictured(it, "rest"), *tables(it, 2)])
 
 
 def report_of_two(kind: str, paths: Sequence[str], options: Sequence[Sequence[str]]) -> str:
-    one, other = (Recording(kind, *its) for its in zip(paths, options))
+    states = [State(path) for path in paths]
+    span = max(state.size for state in states)            # the pictures have one scale
+    one, other = (Recording(kind, *its, span) for its in zip(paths, options, states))
     lacks = Lacks(kind, paths, options)
-    for it in one, other:
-        it.surveyed(max(one.state.size, other.state.size))    # the pictures have one scale
     if one.name == other.name:                            # they get their paths as names, or else their places
         one.name, other.name = map(shown, paths)
     if one.name == other.name:
@@ -69,8 +60,7 @@ def report_of_two(kind: str, paths: Sequence[str], options: Sequence[Sequence[st
              verdict(said_of_two(one, other, lacks), asked, lacks.same),
              heading(2, "Pictures")]
     for number, it in enumerate((one, other)):
-        parts += [heading(3, it.name), "" if alike else read_as(it), paragraph(said(it.survey, it.tally)),
-                  pictured(it, f"rest{number}")]
+        parts += [heading(3, it.name), "" if alike else read_as(it), paragraph(said(it)), pictured(it, f"rest{number}")]
     parts += lacked(one, other, lacks)
     for it in one, other:
         parts += [heading(2, it.name), facts(facts_of(it)), *tables(it, 3)]
@@ -78,25 +68,23 @@ def report_of_two(kind: str, paths: Sequence[str], options: Sequence[Sequence[st
 
 
 def read_as(it: Recording) -> str:
-    return paragraph("Read as " + " ".join([it.survey.kind, *map(shown, it.survey.options)]), "read")
+    return paragraph("Read as " + " ".join([it.kind, *map(shown, it.options)]), "read")
 
 
 def facts_of(it: Recording) -> List[Tuple[str, str]]:
-    survey = it.survey
-    totals = [f"{survey.frames:,} frames", f"{survey.skipped:,} skipped",
-              *[f"{lost_frames(survey):,} lost"] * (survey.kind == "tm"), f"{survey.packets:,} packets",
-              f"{survey.idle:,} idle packets", f"{sum(survey.anomalies.values()):,} anomalies"]
-    return [("Totals", ", ".join(totals)), ("Octets", f"{survey.size:,}"), ("SHA-256", it.digest)]
+    totals = [f"{it.frames:,} frames", f"{it.skipped:,} skipped", *[f"{lost_frames(it):,} lost"] * (it.kind == "tm"),
+              f"{it.packets:,} packets", f"{it.idle:,} idle packets", f"{sum(it.anomalies.values()):,} anomalies"]
+    return [("Totals", ", ".join(totals)), ("Octets", f"{it.size:,}"), ("SHA-256", it.digest)]
 
 
 def pictured(it: Recording, ident: str) -> str:
-    picture = Picture(it.survey, ident, heading=False)
+    picture = Picture(it, ident)
     drawn = figure(f"Picture of {it.name}", picture.draw(), picture.keys())
     return drawn + (paragraph(picture.note(), "note") if picture.note() else "")
 
 
-def tables(it: Recording, level: int) -> List[str]:
-    survey, parts = it.survey, [heading(level, "Channels")]
+def tables(survey: Survey, level: int) -> List[str]:
+    parts = [heading(level, "Channels")]
     if survey.frames == survey.skipped:
         parts.append(paragraph("No frame is read."))
     elif survey.kind == "tm":
@@ -105,7 +93,7 @@ def tables(it: Recording, level: int) -> List[str]:
     else:
         parts += [channels_tc(survey), heading(level, "FARM-1 at the end of the uplink"), farms(survey),
                   *lockouts(survey)]
-    parts += [heading(level, "Packets"), *packets(it.tally)]
+    parts += [heading(level, "Packets"), *packets(survey)]
     return parts + [heading(level, "What check reports"), *checked(survey)]
 
 
@@ -199,18 +187,16 @@ def clcws_of(reports: Sequence[Tuple[Tuple[int, int], Reports]]) -> Table:
                   for (vc, link_vc), it in reports])
 
 
-def packets(tally: Tally) -> List[str]:
-    if not tally.counts:
+def packets(survey: Survey) -> List[str]:
+    if not survey.tallies:
         return [paragraph("No packet is delivered.")]
-    with_map = tally.kind == "tc"
+    with_map = survey.kind == "tc"
     table = Table("Packets", ["Virtual channel", *["#MAP"] * with_map, "#APID", "Packets", "!Jumps",
                               "!Missing by the counts", "Octets", "#First count", "#Last count"],
                   [[*columns(key, with_map), it.packets, it.jumps, it.missing, it.octets, it.first, it.last]
-                   for key, it in [*sorted(tally.counts.items()), ((0, 0, 0), tally.others)]]).summed()
-    table.rows.pop()                                      # the others
-    table.left = tally.left
-    several = len({apid for _, _, apid in tally.counts}) < len(tally.counts)
-    return [table.html(), paragraph(JUMPS + SEVERAL * several + FIRST * bool(table.left), "note")]
+                   for key, it in sorted(survey.tallies.items())]).summed()
+    several = len({apid for _, _, apid in survey.tallies}) < len(survey.tallies)
+    return [table.html(), paragraph(JUMPS + SEVERAL * several, "note")]
 
 
 def columns(key: Key, with_map: bool) -> List[int]:
@@ -235,22 +221,25 @@ def lacked(one: Recording, other: Recording, lacks: Lacks) -> List[str]:
     if lacks.same or lacks.reordered:
         order = "another" if lacks.reordered else "the same"
         return parts + [paragraph(f"Nothing: both have the same packets on each channel, in {order} order."
-                                  if one.tally.packets() else "Neither has a packet.")]
+                                  if one.packets else "Neither has a packet.")]
     parts.append(differing(one, other, lacks).html())
-    if lacks.left:
-        parts.append(paragraph(f"Only the {MOST_APIDS:,} APIDs of channels that come first are counted each.", "note"))
     return parts + runs(one, lacks.only[1]) + runs(other, lacks.only[0])
 
 
 def differing(one: Recording, other: Recording, lacks: Lacks) -> Table:
     """The APIDs where one recording lacks packets."""
-    with_map = one.survey.kind == "tc"
+    with_map = one.kind == "tc"
     names = one.name, other.name
     return Table("APIDs with missing packets",
                  ["Virtual channel", *["#MAP"] * with_map, "#APID", *(f"Packets in {name}" for name in names),
                   *(f"!Lacked by {name}" for name in names)],
-                 [[*columns(key, with_map), one.tally.of(key), other.tally.of(key), there, here]
+                 [[*columns(key, with_map), *(packets_of(it, key) for it in (one, other)), there, here]
                   for key, (here, there) in sorted(lacks.each.items())])
+
+
+def packets_of(survey: Survey, key: Key) -> int:
+    """How many packets of an APID there are."""
+    return survey.tallies[key].packets if key in survey.tallies else 0
 
 
 def runs(it: Recording, missing: Missing) -> List[str]:

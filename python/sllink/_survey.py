@@ -1,7 +1,7 @@
-"""What `show` and `check` have for a recording, added up for a picture and for a page.
+"""What `show`, `check` and `packets` have for a recording, added up for a page and its picture.
 
 Of a long recording no line is kept but the first ones of `check`, so a survey takes no more memory for it than for a
-short one.
+short one, but for each APID that has packets.
 """
 
 import os
@@ -11,8 +11,9 @@ from functools import lru_cache
 from typing import Counter, Dict, Iterator, List, NamedTuple, Optional, Sequence, Tuple
 
 from ._check_words import CELLED
-from ._program import blocks
-from .tool import State, shown
+from ._counts import tallied
+from ._program import blocks, output_of
+from .tool import Refused, State, shown
 
 BINS = 480                                                # stretches of a picture, in which frames are counted
 SPOTS, MARKED = 960, 120                                  # those in which anomalies are counted; of a long recording
@@ -114,11 +115,10 @@ class Reports:
 
 
 class Survey:
-    """What `show` and `check` have for a recording, in a picture of its octets, or of more of them, `span`."""
+    """What the listings have for a recording, in a picture of its octets, or of more of them, `span`."""
 
-    def __init__(self, kind: str, recording: str, options: Sequence[str], span: int = 0,
-                 state: Optional[State] = None) -> None:
-        self.state = state or State(recording)
+    def __init__(self, kind: str, recording: str, options: Sequence[str], state: State, span: int = 0) -> None:
+        self.state = state
         self.kind, self.recording, self.options = kind, recording, list(options)
         self.name = shown(os.path.basename(recording))
         self.size = self.state.size
@@ -147,6 +147,11 @@ class Survey:
         else:
             self.cells.clear()
         self._check()
+        try:
+            with output_of("packets", kind, recording, options) as listing:
+                self.tallies = tallied(listing)
+        except ValueError:
+            raise Refused(f"{shown(recording)}: sllink: what it says of packets is no line of them") from None
         self.state.require_unchanged()
 
     def rows(self) -> List[int]:

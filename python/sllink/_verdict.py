@@ -1,9 +1,9 @@
 """What is said of a pass in a sentence."""
 
-from typing import Any, List, Sequence
+from typing import List, Sequence
 
+from ._difference import Lacks
 from ._survey import Survey
-from ._tally import Lacks, Tally
 
 
 def number_of(number: int, what: str) -> str:
@@ -24,7 +24,7 @@ def channels(numbers: Sequence[int]) -> str:
     return f"virtual channel{'s' if len(numbers) > 1 else ''} {listed(numbers)}"
 
 
-def said(survey: Survey, tally: Tally) -> str:
+def said(survey: Survey) -> str:
     """A recording in a sentence."""
     if not survey.frames:
         return f"No whole frame: the recording has {number_of(survey.size, 'octet')}." if survey.size else \
@@ -32,7 +32,7 @@ def said(survey: Survey, tally: Tally) -> str:
     parts = [frames_said(survey)]
     if survey.frames > survey.skipped:
         parts += [losses_said(survey)] if survey.kind == "tm" else farm_said(survey)
-    parts.append(f"{number_of(tally.packets(), 'packet')} delivered" if tally.counts else "no packet delivered")
+    parts.append(f"{number_of(survey.packets, 'packet')} delivered" if survey.packets else "no packet delivered")
     return "; ".join(parts) + "."
 
 
@@ -82,8 +82,8 @@ def farm_said(survey: Survey) -> List[str]:
     return parts + ([f"lockout at the end on {channels(locked)}"] if locked else [])
 
 
-def said_of_two(one: Any, other: Any, lacks: Lacks) -> str:
-    here, there = one.tally.packets(), other.tally.packets()
+def said_of_two(one: Survey, other: Survey, lacks: Lacks) -> str:
+    here, there = one.packets, other.packets
     if not here + there:
         return "Neither recording delivers a packet."
     if lacks.same:

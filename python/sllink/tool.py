@@ -14,7 +14,7 @@ import subprocess
 import sys
 import time
 from collections import deque
-from typing import Any, Callable, Dict, Iterable, Iterator, List, NoReturn, Optional, Tuple, Union
+from typing import Any, Callable, Dict, Iterable, Iterator, List, NoReturn, Optional, Tuple
 
 from . import __version__
 from ._fault import SllinkError, shown as shown              # pylint: disable=useless-import-alias
@@ -31,9 +31,9 @@ class Refused(Exception):
     """Why the tool can't do what is asked, in a line; its status is 2."""
 
 
-def require_file(path: Union[str, bytes], why: str = "is no file that can be read more than once") -> None:
-    """Refuses what can't be read; for this reason what is no file, as a pipe; and files of the system, which have
-    octets and no size: some of them never end."""
+def require_file(path: str) -> None:
+    """Refuses what can't be read; what is no file, as a pipe; and files of the system, which have octets and no size:
+    some of them never end."""
     try:
         mode, size = os.stat(path).st_mode, os.stat(path).st_size
     except (OSError, ValueError) as error:
@@ -41,7 +41,7 @@ def require_file(path: Union[str, bytes], why: str = "is no file that can be rea
     if stat.S_ISDIR(mode):
         raise Refused(f"{shown(path)}: is a folder")
     if not stat.S_ISREG(mode):
-        raise Refused(f"{shown(path)}: {why}")
+        raise Refused(f"{shown(path)}: is no file that can be read more than once")
     if not os.access(path, os.R_OK):
         raise Refused(f"{shown(path)}: can't be read: {os.strerror(errno.EACCES)}")
     if not size:

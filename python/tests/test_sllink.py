@@ -222,11 +222,9 @@ class Listings(Way):
         wrapped = sllink.Packet(0, None, 1, 0, 0, 3, 0, b"12345678")
         self.assertEqual(sllink.counts([packet, wrapped, wrapped]), [sllink.Count(0, None, 1, 3, 23, 1)])
         self.assertEqual(sllink.counts([]), [])
-        some = [sllink.Packet(at % 2, (None, 5, 0)[at % 3], at % 5, 0, 0, 3, at * at, bytes(7)) for at in range(99)]
-        with unittest.mock.patch.object(sys.modules["sllink._counts"], "MOST", 4):
-            kept = sllink.counts(some)
-        self.assertEqual((list(kept), len(kept), kept[-1], kept[1:3]),
-                         (found := sllink.counts(some), len(found), found[-1], found[1:3]))
+        some = [sllink.Packet(vc, map_id, 5, 0, 0, 3, 7, bytes(7)) for vc in (1, 0) for map_id in (5, None, 0)]
+        self.assertEqual([(it.vc, it.map) for it in sllink.counts(some)],
+                         [(vc, map_id) for vc in (0, 1) for map_id in (None, 0, 5)])
 
 
 class TheOptions(InAFolder):

@@ -140,8 +140,8 @@ program_of() {
 
 # refuses_options COMMAND..: a tool, with all its words but options: what it makes of wrong options, of a program that
 # isn't there, isn't sllink, or has a status or totals that aren't those of a run to the end, of an output that is full
-# or that nobody reads, of a signal while sllink runs, and its help. The first recording is also on the standard input,
-# as a path. All wrong values and all that isn't sllink are tried in python/tests.
+# or that nobody reads, of a signal while sllink runs, and its help. All wrong values and all that isn't sllink are tried
+# in python/tests.
 refuses_options() {
   local called=$1 options
   [ "$1" != python3 ] || called=${*:1:3}
@@ -149,27 +149,27 @@ refuses_options() {
   declines "$called: sllink: *--scid*" "$@" --scid 1 --scid 1 < /dev/null
   declines "$called: sllink: *--tm-lenght*" "$@" --scid 1 --tm-lenght 32 < /dev/null
   declines "$called: sllink: *; --scid takes a decimal number from 0 to 1023" "$@" --scid=70000 < /dev/null
-  declines "$called: *sllink: too long; *--limit" "$@" --scid 1 --limit 100 < <(echo $first)
+  declines "$called: *sllink: too long; *--limit" "$@" --scid 1 --limit 100 < /dev/null
   SLLINK=$room/none declines "$called: $room/none: *" "$@" --scid 1 < /dev/null
   SLLINK=$room declines "$called: $room: *" "$@" --scid 1 < /dev/null
-  SLLINK=$(type -P yes) refuses "$called: */yes: isn't sllink, *" "$@" "${tm[@]}" < <(echo $first)
+  SLLINK=$(type -P yes) refuses "$called: */yes: isn't sllink, *" "$@" "${tm[@]}" < /dev/null
   program_of other 'exit 1'
-  SLLINK=./other refuses "$called: *sllink: *" "$@" "${tm[@]}" < <(echo $first)
+  SLLINK=./other refuses "$called: *sllink: *" "$@" "${tm[@]}" < /dev/null
   declines "$called: *$called tm|tc *" $called < /dev/null
   declines "$called: *$called tm|tc *" $called tx $first $first --scid 1 < /dev/null
   run "$@" --help < /dev/null
   expect "$called --help" "0 1" "$status $(grep -c "^ *$called tm|tc " "$log/output")"
   begin
-  "$@" "${tm[@]}" < <(echo $first) > /dev/full 2> "$log/errors"
+  "$@" "${tm[@]}" < /dev/null > /dev/full 2> "$log/errors"
   expect "$called, full device" "2 1" "$? $(wc -l < "$log/errors")"
   for options in "${tm[*]}" --help; do
-    run to_nobody "$@" $options < <(echo $first)
+    run to_nobody "$@" $options < /dev/null
     expect "$called $options: the reader goes away" "2 " "$status $(cat "$log/errors")"
   done
   begin
   program_of slow ': > started' 'sleep 1'
   rm -f started
-  SLLINK=./slow "$@" "${tm[@]}" < <(echo $first) > /dev/null 2>&1 &
+  SLLINK=./slow "$@" "${tm[@]}" < /dev/null > /dev/null 2>&1 &
   timeout 60 sh -c 'until [ -e started ]; do sleep 0.05; done'
   kill $!
   wait $!

@@ -10,16 +10,23 @@ A and B are recordings, and OPTION are options of sllink for both.
     -h, --help        Print help
     -V, --version     Print the version
 
-The page has, of each recording: a sentence on it, with a question where an option may be wrong; its picture, the one
-of sllink-picture; its virtual channels, with gaps and missing counts; of an uplink what FARM-1 makes of the frames,
-and its state at the end; its packets by APID; how many lines of each word `check` has, and the first 200 of them; its
-totals, its octets and their SHA-256.
+The page has, of each recording: a sentence on it, with a question where an option may be wrong; its picture; its
+virtual channels, with gaps and missing counts; of an uplink what FARM-1 makes of the frames, and its state at the end;
+its packets by APID; how many lines of each word `check` has, and the first 200 of them; its totals, its octets and
+their SHA-256.
+
+The picture has a row for each virtual channel, over the octets of the recording. A cell is a frame. Its colour is the
+class of a TM frame, and in it stands the virtual channel frame count; or its colour is what FARM-1 makes of a TC frame,
+and in it stands N(S) or the command. Skipped frames, and the octets after the last frame, have a row of their own.
+Above a row there are marks for gaps, dropped packets and what else `check` has for the channel; beside the mark of a
+gap stands how many frames are lost. At the end of a row stands the sum of its lost frames, and what is incomplete at
+the end. Below a row there are bars where the Lockout flag or the Retransmit flag of FARM-1 is set. With more than 480
+frames a cell is several of them, divided by what they are; the fullest cell of a row has the whole height of the row. A
+browser shows the lines of `show` and `check`, or their numbers, where the mouse is.
 
 Of two recordings it has the pictures one under the other with one scale, and the packets that each lacks and the other
 has: by APID, and in runs of the sequence count, as `vc 0 apid 100 counts 193..199 packets 7`, the first 200 of each.
-They are those that sllink-compare lists: packets are compared in their order, and those that both have in another order
-are in the runs of each. What is kept for that, 20 to 44 octets a packet, goes into a folder in $TMPDIR that is deleted
-at the end.
+They are those that sllink-compare lists.
 
 Status: 0 where a page is written, whatever it says; 2 with one line on the standard error, and no page or the beginning
 of one. Where whoever reads the output goes away, or SIGINT, SIGTERM or SIGHUP stops the tool, the status is 2 without a

@@ -66,7 +66,7 @@ Pick = Callable[[bytes], bytes]                           # of a column: the row
 
 class Shape(NamedTuple):
     """Recordings of one shape. The program reads them as this kind, with these options. They are cut to a multiple of
-    `unit` octets. The kind `paths` is what sllink-check-each reads."""
+    `unit` octets."""
 
     kind: str
     options: Tuple[str, ...]
@@ -173,12 +173,6 @@ def longest_packets(it: Asked) -> Iterator[bytes]:
     return (tm(0, at, at, *field) for at, field in enumerate(COSTLY["data_fields"](packets, 2042)))
 
 
-def channels_in_turn(it: Asked) -> Iterator[bytes]:
-    row = tc(0x2000, 0, 0, b"\xc0" + PACKET)              # the type, channel, MAP, packet's type, APID, flags and count
-    return (it.losing(row, {2: it.channels(), 5: it.noise(SOME, 64, 0xC0), 6: it.noise(SOME, 32), 7: it.noise(),
-                            8: it.noise(), 9: it.noise(), 12: it.noise()}) for _ in count())
-
-
 # Frames that are anything.
 
 def tm_at_random(it: Asked) -> Iterator[bytes]:
@@ -223,7 +217,7 @@ def costly(name: str) -> Make:
 
 
 ALL = "packets of 7 octets, none twice, APIDs and counts in no order"
-SHAPES = {name: Shape(kind, ("--scid", "1", *words.split()) * (kind != "paths"), unit, pair, make, what)
+SHAPES = {name: Shape(kind, ("--scid", "1", *words.split()), unit, pair, make, what)
           for kind, words, unit, pair, shapes in (
     ("tm", "--tm-length 1112", FULL, True, (
         ("none-common", lambda it: Unlike(it.own(), bytes([it.side]) * SOME).framed(), f"{ALL}, none in both"),
@@ -236,8 +230,6 @@ SHAPES = {name: Shape(kind, ("--scid", "1", *words.split()) * (kind != "paths"),
         ("cycle-shifted", cycle_shifted, "the same 16384 packets over and over, from another one on the second time"))),
     ("tm", "--tm-length 2048", 2048, True, (
         ("longest-packets", longest_packets, "packets of 65542 octets, every second one ends otherwise"),)),
-    ("tc", "--tc-length 16", 13, True, (
-        ("channels-in-turn", channels_in_turn, "any channel, MAP, APID and flags, the second one lacks one in ten"),)),
     ("tm", "--tm-length 32", 32, False, (
         ("tm-at-random", tm_at_random, "any channel, counts and pointer, one frame in four is skipped"),
         ("clcws-at-random", clcws_at_random, "CLCWs of any channel with any flags"),
@@ -249,11 +241,7 @@ SHAPES = {name: Shape(kind, ("--scid", "1", *words.split()) * (kind != "paths"),
         ("spacecraft-in-turn", spacecraft_in_turn, "each frame of any spacecraft"),)),
     ("tm", "--tm-length 1115", 1, False, (
         ("noise", lambda it: (it.noise() for _ in count()), "any octets"),
-        ("few-octets", lambda it: (it.noise(SOME, 4) for _ in count()), "octets from 0 to 3 in no order"))),
-    ("paths", "", 1, False, (
-        ("one-path", lambda it: cycle([b"x" * SOME]), "one path without an end"),
-        ("missing-paths", lambda it: (it.noise().replace(b"\0", b"\n") for _ in count()),
-         "paths of files that aren't there, of any octets"))))
+        ("few-octets", lambda it: (it.noise(SOME, 4) for _ in count()), "octets from 0 to 3 in no order"))))
     for name, make, what in shapes}
 for line in COSTLY["listing"]():
     costly_name, costly_kind, costly_words, costly_what = line.rstrip().split("\t")

@@ -18,7 +18,7 @@ OSError: the recording can't be opened, or the output not written. SllinkError: 
 stopped, or Options would be refused. What came before it is the beginning of the listing.
 """
 
-__version__ = "1.0.0"
+__version__ = "2.0.0"
 
 from ._counts import counts
 from ._fault import SllinkError

@@ -713,7 +713,7 @@ def read_words(words: List[bytes]) -> Command:
         raise Decided(2, b"", b"error: the command line is no UTF-8 text") from None
     first = texts[0] if texts else ""
     if first == "--version" or first.startswith("-V"):
-        raise Decided(0, b"sllink 1.0.0\n", None)
+        raise Decided(0, b"sllink 2.0.0\n", None)
     if asks_for_help(first) or texts in [["help"]] + [["help", word] for word in (*VERBS, "help")]:
         answer_help()
     if first not in VERBS:

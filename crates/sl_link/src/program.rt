@@ -32,7 +32,7 @@ const REFUSED: u8 = 2;
 const FAULT: u8 = 3;
 
 // What `--version` writes.
-const VERSION_LINE: &str = "sllink 1.0.0\n";
+const VERSION_LINE: &str = "sllink 2.0.0\n";
 
 // What all help ends with.
 const HELP_END: &str = "

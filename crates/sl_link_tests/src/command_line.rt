@@ -239,7 +239,7 @@ fn the_version_is_printed(rt: HostRuntime) -> Result<(), Stop> {
         holds(
             &rt,
             line,
-            outcome.says(0, "") && outcome.text() == "sllink 1.0.0\n",
+            outcome.says(0, "") && outcome.text() == "sllink 2.0.0\n",
         );
     }
     Ok(())

@@ -69,7 +69,7 @@ const ALLOWED: &str = "skip gap dropped opaque foreign rest open early late outs
     long tail nothing most options";
 
 // The version of the product. The line that `--version` writes repeats it.
-const VERSION: &str = "1.0.0";
+const VERSION: &str = "2.0.0";
 
 // How the program is called. `--scid` may also be given for each recording by itself.
 const USAGE: &str = "sllink-compare [OPTIONS] --scid <ID> <KIND> <A> <B>";

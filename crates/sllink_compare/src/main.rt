@@ -24,7 +24,7 @@ use std::{env, io};
 use totals::Names;
 
 // What `--version` writes.
-const VERSION_LINE: &str = "sllink-compare 1.0.0\n";
+const VERSION_LINE: &str = "sllink-compare 2.0.0\n";
 
 fn main(rt: HostRuntime) -> ExitCode {
     match start(&rt) {

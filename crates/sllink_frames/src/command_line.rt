@@ -56,7 +56,7 @@ const DERANDOMISE: &str = "derandomise";
 const FILE: &str = "file";
 
 // The version of the product. The line that `--version` writes repeats it.
-const VERSION: &str = "1.0.0";
+const VERSION: &str = "2.0.0";
 
 // What stands below the options in the help.
 const EXAMPLES: &str = "\

@@ -17,7 +17,7 @@ use std::process::ExitCode;
 use std::{env, io};
 
 // What `--version` writes.
-const VERSION_LINE: &str = "sllink-frames 1.0.0\n";
+const VERSION_LINE: &str = "sllink-frames 2.0.0\n";
 
 fn main(rt: HostRuntime) -> ExitCode {
     match start(&rt) {

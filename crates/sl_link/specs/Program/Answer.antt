@@ -7,7 +7,7 @@ use Rattle.sl_link.specs.Program.CommandLine.{AskForHelp, AskForVersion}
 
 -- the name and the version
 abbrev pub version_line : Text
-version_line = codes "sllink 1.0.0\n"
+version_line = codes "sllink 2.0.0\n"
 
 -- where input comes from, where output goes, and the exit statuses
 abbrev pub help_end : Text

@@ -68,7 +68,7 @@ const LIMIT: &str = "limit";
 static KINDS: [&str; 2] = ["tm", "tc"];
 
 // The version of the product. The line that `--version` writes repeats it.
-const VERSION: &str = "1.0.0";
+const VERSION: &str = "2.0.0";
 
 // What stands below the options in the help of the program, and in that of each verb.
 

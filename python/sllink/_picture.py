@@ -94,7 +94,7 @@ class Picture:
         return parts, y
 
     def x(self, offset: float) -> float:
-        return LEFT + (RIGHT - LEFT) * min(offset, self.survey.span) / self.survey.span
+        return LEFT + (RIGHT - LEFT) * min(self.survey.before + offset, self.survey.span) / self.survey.span
 
     def _row(self, row: int, y: int) -> Tuple[List[str], int]:
         survey = self.survey
@@ -103,7 +103,7 @@ class Picture:
         flags = [flag for flag in FLAGS if (row, flag) in survey.bars]
         self.used |= set(found) | set(flags) | set(survey.of_row(row))
         y += MARK * len(levels)
-        parts = [box(LEFT, y, self.x(survey.size) - LEFT, CELL, "row"),
+        parts = [box(self.x(0), y, self.x(survey.size) - self.x(0), CELL, "row"),
                  f'<path class="line" d="M{LEFT} {y + CELL + 0.5}H{RIGHT}"/>']
         for level, what in enumerate(levels):
             parts += self._marks(row, what, y - MARK * (len(levels) - level) + MARK / 2 - 1)
@@ -166,7 +166,7 @@ class Picture:
         return [self._long_cell(row, place * joined, joined, cell, most, y) for place, cell in sorted(cells.items())]
 
     def _long_cell(self, row: int, stretch: int, joined: int, cell: Dict[str, int], most: int, y: float) -> str:
-        start, end = (min(at * self.survey.span / BINS, self.survey.size) for at in (stretch, stretch + joined))
+        start, end = (self.survey.offset_of(at) for at in (stretch, stretch + joined))
         x, number, top = self.x(start), sum(cell.values()), y + CELL
         wide = max(self.x(end) - x, THINNEST if joined == 1 else 1) - (1 if joined > 2 else 0)
         height = CELL * (1 if row == NOT_READ else LEAST + (1 - LEAST) * number / most)
@@ -215,7 +215,7 @@ class Picture:
         long = self.survey.span * self.coarse
         for spot in sorted(marks):
             mark, place = marks[spot], spot // self.coarse
-            into = joined.setdefault(place, Mark((2 * place + 1) * long // (2 * MARKED)))
+            into = joined.setdefault(place, Mark((2 * place + 1) * long // (2 * MARKED) - self.survey.before))
             into.number += mark.number
             into.lost += mark.lost
             into.lines += mark.lines[:max(0, ABOUT // self.coarse - len(into.lines))]
@@ -238,7 +238,7 @@ class Picture:
         while self.survey.span / step > 12:
             step = step * 2 if str(step)[0] in "15" else step * 5 // 2
         parts = [f'<path class="axis" d="M{LEFT} {y}H{RIGHT}"/>']
-        for offset in range(0, self.survey.span + 1, step):
+        for offset in range(0, self.survey.span - self.survey.before + 1, step):
             x, words = self.x(offset), f"{offset:,}"
             parts.append(f'<path class="axis" d="M{x:.1f} {y}v5"/>')
             x = min(x, WIDTH - 4 - width(words, 10) / 2)

@@ -3,6 +3,7 @@
 import hashlib
 from typing import Counter, List, Sequence, Tuple
 
+from ._align import first_of_both
 from ._check_words import meaning_of
 from ._counts import Key
 from ._difference import MOST_RUNS, Lacks, Missing
@@ -25,9 +26,10 @@ MOST_CLCWS = 12                                           # pairs of channels th
 class Recording(Survey):
     """All that a page has of a recording."""
 
-    def __init__(self, kind: str, path: str, options: Sequence[str], state: State, span: int = 0) -> None:
+    def __init__(self, kind: str, path: str, options: Sequence[str], state: State, before: int = 0,
+                 span: int = 0) -> None:
         with about(path):
-            super().__init__(kind, path, options, state, span)
+            super().__init__(kind, path, options, state, before, span)
         digest = hashlib.sha256()
         with open(path, "rb") as file:
             for octets in iter(lambda: file.read(1 << 16), b""):
@@ -47,8 +49,11 @@ def report_of_one(kind: str, path: str, options: Sequence[str]) -> str:
 
 def report_of_two(kind: str, paths: Sequence[str], options: Sequence[Sequence[str]]) -> str:
     states = [State(path) for path in paths]
-    span = max(state.size for state in states)            # the pictures have one scale
-    one, other = (Recording(kind, *its, span) for its in zip(paths, options, states))
+    # The pictures have one axis: what both have first stands at one place in both.
+    at = first_of_both(kind, paths, options)
+    before = [max(at) - it for it in at]
+    span = max(it + state.size for it, state in zip(before, states))
+    one, other = (Recording(kind, *its, span) for its in zip(paths, options, states, before))
     lacks = Lacks(kind, paths, options)
     if one.name == other.name:                            # they get their paths as names, or else their places
         one.name, other.name = map(shown, paths)

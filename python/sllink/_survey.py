@@ -115,13 +115,16 @@ class Reports:
 
 
 class Survey:
-    """What the listings have for a recording, in a picture of its octets, or of more of them, `span`."""
+    """What the listings have for a recording, in a picture of its octets, or of more of them: so many before it, and
+    `span` in all."""
 
-    def __init__(self, kind: str, recording: str, options: Sequence[str], state: State, span: int = 0) -> None:
+    def __init__(self, kind: str, recording: str, options: Sequence[str], state: State, before: int = 0,
+                 span: int = 0) -> None:
         self.state = state
         self.kind, self.recording, self.options = kind, recording, list(options)
         self.name = shown(os.path.basename(recording))
         self.size = self.state.size
+        self.before = before
         self.span = max(span, self.size, 1)               # a recording that grows may be empty at first
         self.frames = self.skipped = self.packets = self.idle = 0
         self.anomalies: Counter[str] = Counter()        # lines of `check` by their words
@@ -167,14 +170,18 @@ class Survey:
         return {row: sum(mark.lost for mark in marks.values()) for (row, what), marks in self.marks.items()
                 if what == "gap"}
 
+    def offset_of(self, stretch: int) -> int:
+        """Where a stretch of the picture begins in the recording."""
+        return min(max(stretch * self.span // BINS - self.before, 0), self.size)
+
     def _divided(self, block: bytes, stretches: int) -> Iterator[Tuple[int, bytes]]:
         """The lines of a block by the stretch in which their offsets lie. Offsets don't fall."""
         start = 0
         while start < len(block):
-            stretch = min(offset_at(block, start) * stretches // self.span, stretches - 1)
+            stretch = min((self.before + offset_at(block, start)) * stretches // self.span, stretches - 1)
             end = len(block)
             if stretch < stretches - 1:
-                end = line_from(block, start, -(-(stretch + 1) * self.span // stretches))
+                end = line_from(block, start, -(-(stretch + 1) * self.span // stretches) - self.before)
             yield stretch, block[start:end]
             start = end
 
@@ -244,7 +251,7 @@ class Survey:
     def _add_tc(self, stretch: int, piece: bytes) -> None:
         """Adds lines of `show tc` that lie in one stretch."""
         known, now, found = self._known, self._flags, SHOWN_TC.findall(piece)
-        start, end = (min(at * self.span // BINS, self.size) for at in (stretch, stretch + 1))
+        start, end = (self.offset_of(at) for at in (stretch, stretch + 1))
         self._raise(now, self._until, start)
         seen: Dict[int, int] = {}                         # flags that are set somewhere in it, by channel
         refused: List[Tuple[int, int]] = []

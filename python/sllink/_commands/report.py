@@ -24,8 +24,8 @@ the end. Below a row there are bars where the Lockout flag or the Retransmit fla
 frames a cell is several of them, divided by what they are; the fullest cell of a row has the whole height of the row. A
 browser shows the lines of `show` and `check`, or their numbers, where the mouse is.
 
-Of two recordings it has the pictures one under the other with one scale, and the packets that each lacks and the other
-has: by APID, and in runs of the sequence count, as `vc 0 apid 100 counts 193..199 packets 7`, the first 200 of each.
+Of two recordings it has the pictures one under the other, so that the first frame or packet that both have stands at
+one place, and the packets that each lacks and the other has: by APID, and in runs of the sequence count, as `vc 0 apid 100 counts 193..199 packets 7`, the first 200 of each.
 They are those that sllink-compare lists.
 
 Status: 0 where a page is written, whatever it says; 2 with one line on the standard error, and no page or the beginning

@@ -1,4 +1,5 @@
 -- Worked examples, computed from the definitions.
+pub mod Anomalies
 pub mod CheckTc
 pub mod CheckTm
 pub mod CommandLine

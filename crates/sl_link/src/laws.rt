@@ -2,6 +2,9 @@
 ghost use Rattle.sl_link.specs.Compare.Lost.{StationsLackLostPackets};
 ghost use Rattle.sl_link.specs.Compare.Summarised.{TcNumbersAreOfCheck, TmNumbersAreOfCheck};
 ghost use Rattle.sl_link.specs.Compare.Text.{TcDifferencesHaveLines, TmDifferencesHaveLines};
+ghost use Rattle.sl_link.specs.Verbs.Check.Anomaly.{LinesTellAnomalies};
+ghost use Rattle.sl_link.specs.Verbs.Check.Anomaly.Tc.{TcAnomaliesAreCounted, TcAnomaliesAreListed};
+ghost use Rattle.sl_link.specs.Verbs.Check.Anomaly.Tm.{TmAnomaliesAreCounted, TmAnomaliesAreListed};
 ghost use Rattle.sl_link.specs.Verbs.Packets.Listed.{TmPacketsAreListed, TcPacketsAreListed};
 ghost use Rattle.sl_link.specs.Normalise.Separation.{TmFormsTellPackets, TcFormsTellPackets};
 
@@ -62,4 +65,34 @@ pub fn compared_numbers_are_of_check()
 pub fn differences_have_lines()
     ensures tm { TmDifferencesHaveLines }
     ensures tc { TcDifferencesHaveLines }
+{}
+
+/// What `check tm` writes of a recording, but for its last line, is the lines of anomalies, one after
+/// another. These are exactly the anomalies of the recording, each of them once, in order: by the
+/// offset, and where it is the same in the order of the lines of one frame, or of the channels. The
+/// last line is that of the totals, and has their number.
+///
+/// What an anomaly is, is said by how the recording is delimited and how its frames are read, and by
+/// the relations that the laws of `sl_tmflow` tie to its reports: a gap, a packet that is broken off,
+/// octets of another version at a packet start, an incomplete packet.
+#[tactic(auto, using(crate::proofs::lemmas::Verbs::Check::Anomaly::Tm::tm_anomalies_are_listed))]
+pub fn tm_anomalies_are_listed()
+    ensures { TmAnomaliesAreListed }
+{}
+
+/// The same of `check tc`, where FARM-1's window has at most 256 numbers. What an anomaly is, is said
+/// by how the recording is delimited and how its frames are read, by FARM-1's table, and by the
+/// relations that the laws of `sl_tcflow` tie to its reports: a segment out of sequence, a series
+/// that is dropped, too long or incomplete, octets that are left after packets.
+#[tactic(auto, using(crate::proofs::lemmas::Verbs::Check::Anomaly::Tc::tc_anomalies_are_listed))]
+pub fn tc_anomalies_are_listed()
+    ensures { TcAnomaliesAreListed }
+{}
+
+/// Anomalies that have the same line are the same, where their numbers are below 2^64. Those of the
+/// anomalies of a recording are, if it has fewer octets than that.
+pub fn anomalies_have_their_own_lines()
+    ensures lines { LinesTellAnomalies }
+    ensures tm { TmAnomaliesAreCounted }
+    ensures tc { TcAnomaliesAreCounted }
 {}

@@ -1,4 +1,5 @@
 -- What `check` lists.
+pub mod Anomaly
 pub mod Checking
 pub mod Lines
 pub mod Tc

@@ -1,3 +1,5 @@
+-- what is anomalous, by relations, and the listing
+pub mod Anomaly
 -- anomalies of TC frames have few lines
 pub mod FewTc
 -- anomalies of TM frames have few lines

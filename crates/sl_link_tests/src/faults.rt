@@ -2,7 +2,9 @@
 use super::support::engines::{ALL, Kind, Link, Verb};
 use super::support::recordings::{BEGUN, ENDED, FIRST, LONG, OUTSIDE, WHOLE, octets};
 use super::support::rows::{Stop, holds, passes};
-use super::support::streams::{FailsAfter, FullAfter, InPieces, Interrupted, Unflushed};
+use super::support::streams::{
+    FailsAfter, FullAfter, InPieces, Interrupted, Unflushed, Unwritable,
+};
 use sl_link::LinkFault;
 use std::alloc::Global;
 use std::io::Read;
@@ -95,13 +97,30 @@ fn each_read_and_write_may_fail(rt: HostRuntime) {
 fn is_called_once(alloc: Global, engine: &Engine) -> Result<bool, Stop> {
     let (verb, link, recording) = run(alloc, engine, 0)?;
     let ending = link.end(alloc, verb, recording.as_slice(), Unflushed);
-    let is_unflushed = ending.outcome.is_ok() && ending.faults == (0, 0);
+    let is_unflushed = ending.is_done();
     let reader = Interrupted {
         was_interrupted: false,
     };
     let ending = link.end(alloc, verb, reader, Vec::new(alloc));
     let is_interrupted = ending.is_fault(LinkFault::Read, (1, 0)) && ending.writer.is_empty();
     Ok(is_unflushed && is_interrupted)
+}
+
+// Whether a reader isn't asked again after its end; and a writer that refuses each write isn't asked
+// where nothing is to be written: an empty recording has no text but the totals of `check`.
+fn is_called_no_more(alloc: Global, engine: &Engine) -> Result<bool, Stop> {
+    let (verb, link, recording) = run(alloc, engine, 0)?;
+    let reader = FailsAfter {
+        inner: InPieces(recording.as_slice(), 1),
+        allowed: (recording.len() as u64).saturating_add(1),
+    };
+    let is_read = link.end(alloc, verb, reader, Vec::new(alloc)).is_done();
+    let ending = link.end(alloc, verb, std::io::empty(), Unwritable);
+    let is_unwritten = match verb {
+        Verb::Check => ending.is_fault(LinkFault::Write, (0, 1)),
+        _ => ending.is_done(),
+    };
+    Ok(is_read && is_unwritten)
 }
 
 // Whether an input is too long, and nothing of a normal form is written.
@@ -127,6 +146,7 @@ fn is_limited(alloc: Global, engine: &Engine) -> Result<bool, Stop> {
 fn flushes_interruptions_and_limits(rt: HostRuntime) {
     for engine in &ENGINES {
         passes(&rt, engine, is_called_once(rt.alloc(), engine));
+        passes(&rt, engine, is_called_no_more(rt.alloc(), engine));
         passes(&rt, engine, is_limited(rt.alloc(), engine));
     }
 }

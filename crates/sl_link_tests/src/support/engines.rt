@@ -81,6 +81,11 @@ pub struct Ending<W> {
 }
 
 impl<W> Ending<W> {
+    /// Whether it answered totals, and its streams had no fault.
+    pub fn is_done(&self) -> bool {
+        self.outcome.is_ok() && self.faults == (0, 0)
+    }
+
     /// Whether it met this fault, after these faults of the reader and of the writer.
     pub fn is_fault(&self, fault: LinkFault, faults: (u64, u64)) -> bool {
         match self.outcome {

@@ -1,1 +1,8 @@
-
+-- the frames that fates take
+pub mod TakenLemmas
+-- stretches of frames
+pub mod ReasonLemmas
+-- frames that would stand twice
+pub mod TwiceLemmas
+-- what is seen of frames, and what a merge asks
+pub mod MergeLemmas

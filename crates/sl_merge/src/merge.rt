@@ -1,31 +1,47 @@
-//! Whether fates are those of a merge, and the merged recording.
+//! Whether fates tell a merge, and the merged recording.
+ghost use Rattle.std.specs.Prelude.{◌≡◌, ◌||◌, not, is_some, IfOk};
+ghost use Rattle.std.specs.List.{list_all};
+ghost use Rattle.sl_merge.specs.Fates.{merged_octets, stands};
+ghost use Rattle.sl_merge.specs.Merge.{is_merge, is_merge_on};
+
+use crate::channel::keeps_side;
 use crate::fate::Fate;
-use crate::item::items;
+use crate::item::{Item, Seen, next_frame, on_channel, take_frames};
+use crate::twice::is_none_twice;
 use sl_tmframe::TmShape;
 use std::alloc::{AllocError, Global};
 use std::hash::BuildHasher;
 
-/// The merged recording that the fates tell: the frames that stand in it, end to end. The only
-/// refusal is want of memory.
+/// The merged recording that fates tell: the frames that stand in it, end to end. The fates take
+/// frames up to the first one that finds none. The only refusal is want of memory.
 pub fn merged_recording(
     alloc: Global,
     shape: &TmShape,
     one: &[u8],
     other: &[u8],
     fates: &[Fate],
-) -> Result<Vec<u8>, AllocError> {
+) -> Result<Vec<u8>, AllocError>
+    ensures { IfOk result (λ merged.
+        merged.items ≡ merged_octets shape.now.len one.now other.now fates.now) }
+{
     let mut merged = Vec::new(alloc);
-    for item in &items(alloc, shape, 0, one, other, fates)? {
-        match item.fate {
-            Fate::Both | Fate::First | Fate::Second => merged.extend_from_slice(item.frame)?,
-            Fate::FirstLeftOut | Fate::SecondLeftOut => {}
+    let mut firsts = one;
+    let mut seconds = other;
+    for fate in fates {
+        match next_frame(shape, *fate, &mut firsts, &mut seconds) {
+            Some((frame, _)) => {
+                if fate.stands() {
+                    merged.extend_from_slice(frame)?;
+                }
+            }
+            None => return Ok(merged),
         }
     }
     Ok(merged)
 }
 
-/// Reports whether the fates are those of a merge of two recordings. The only refusal is want of
-/// memory.
+/// Reports whether fates tell a merge of two recordings of TM transfer frames. The only refusal is
+/// want of memory.
 pub fn is_merge_tm<S: BuildHasher + Copy>(
     alloc: Global,
     hasher: S,
@@ -34,8 +50,54 @@ pub fn is_merge_tm<S: BuildHasher + Copy>(
     one: &[u8],
     other: &[u8],
     fates: &[Fate],
-) -> Result<bool, AllocError> {
-    let items = items(alloc, shape, spacecraft, one, other, fates)?;
-    // What each channel owes comes here.
-    Ok(!items.is_empty())
+) -> Result<bool, AllocError>
+    // The answer is what the definition says.
+    ensures exactly { IfOk result (λ is.
+        is ≡ is_merge shape.now spacecraft one.now other.now fates.now) }
+{
+    let told = take_frames(alloc, shape, spacecraft, one, other, fates)?;
+    if !told.fits {
+        return Ok(false);
+    }
+    if !are_read(&told.items) {
+        return Ok(false);
+    }
+    for vc in 0..8 {
+        let channel = on_channel(alloc, &told.items, vc)?;
+        let is_right = is_merge_on(alloc, hasher, shape, &channel)?;
+        if !is_right {
+            return Ok(false);
+        }
+    }
+    Ok(true)
+}
+
+// Whether each frame that stands is one that is read.
+fn are_read(seen: &[Seen]) -> bool
+    ensures { result ≡ list_all (λ s. not (stands s.item.fate) || is_some s.vc) seen.now }
+{
+    for one in seen {
+        if one.item.fate().stands() && one.vc.is_none() {
+            return false;
+        }
+    }
+    true
+}
+
+// Whether the frames of one virtual channel are as a merge asks.
+fn is_merge_on<S: BuildHasher + Copy>(
+    alloc: Global,
+    hasher: S,
+    shape: &TmShape,
+    items: &[Item],
+) -> Result<bool, AllocError>
+    ensures { IfOk result (λ is. is ≡ is_merge_on shape.now items.now) }
+{
+    if !keeps_side(items, false) {
+        return Ok(false);
+    }
+    if !keeps_side(items, true) {
+        return Ok(false);
+    }
+    is_none_twice(alloc, hasher, shape, items)
 }

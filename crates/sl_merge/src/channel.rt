@@ -1,0 +1,178 @@
+//! What a merge asks of the frames of one virtual channel.
+ghost use Rattle.std.specs.Prelude.{◌≡◌, ◌+◌, ◌<◌, ◌^◌, ℕ, [], None, false};
+ghost use Rattle.sl_merge.specs.Merge.{before_after, between_after, breaks, follows_last};
+ghost use Rattle.sl_merge.specs.Merge.{has_reasons, is_repeat, is_unbroken, keeps_first, last_after};
+ghost use Rattle.sl_merge.specs.Told.{from_side};
+ghost use Rattle.sl_merge.specs.Tally.{admits, tally_after};
+
+use crate::fate::Fate;
+use crate::item::Item;
+
+/// Whether the frames of one virtual channel are as a merge asks of one recording: the first, or
+/// with `is_turned` the second.
+pub fn keeps_side(items: &[Item], is_turned: bool) -> bool
+    ensures { result ≡ keeps_first (from_side is_turned items.now) }
+{
+    is_unbroken(items, is_turned) && has_reasons(items, is_turned)
+}
+
+// What a run needs to know of the frames before it.
+#[derive(Clone, Copy)]
+struct Run {
+    // The count of the recording's last frame that stands.
+    last: Option<u8>,
+    // Whether a frame of the other recording alone stood since.
+    between: bool,
+}
+
+impl Run {
+    // Whether a frame breaks the run.
+    fn is_broken_by(&self, item: &Item) -> bool
+        ensures { result ≡ breaks self.now.last self.now.between item.now }
+    {
+        item.fate().stands()
+            && item.fate().is_of_first()
+            && self.between
+            && follows(self.last, item.count())
+    }
+
+    // The run with one frame more.
+    fn after(self, item: &Item) -> Run
+        ensures last { result.last ≡ last_after self.last item.now }
+        ensures between { result.between ≡ between_after self.between item.now }
+    {
+        if !item.fate().stands() {
+            self
+        } else if item.fate().is_of_first() {
+            Run {
+                last: Some(item.count()),
+                between: false,
+            }
+        } else {
+            Run {
+                last: self.last,
+                between: true,
+            }
+        }
+    }
+}
+
+// Whether a count follows the one before it, if there is one.
+fn follows(last: Option<u8>, count: u8) -> bool
+    ensures { result ≡ follows_last last count }
+{
+    match last {
+        Some(last) => count == last.wrapping_add(1),
+        None => false,
+    }
+}
+
+// Whether no run of a recording is broken: the first one's, or with `is_turned` the second one's.
+fn is_unbroken(items: &[Item], is_turned: bool) -> bool
+    ensures { result ≡ is_unbroken None false (from_side is_turned items.now) }
+{
+    let mut run = Run {
+        last: None,
+        between: false,
+    };
+    for item in items {
+        let side = item.from_side(is_turned);
+        if run.is_broken_by(&side) {
+            return false;
+        }
+        run = run.after(&side);
+    }
+    true
+}
+
+// What came of a stretch between frames of both recordings.
+#[derive(Clone, Copy)]
+struct Tally {
+    // Whether a frame of both came before.
+    is_begun: bool,
+    // How many frames of the recording are left out, repeats aside.
+    left_out: usize,
+    // How many frames of the other recording alone stand.
+    others: usize,
+}
+
+impl Tally {
+    // Whether the frames that are left out have a reason, where the next frame ends the stretch.
+    fn admits(&self, item: &Item) -> bool
+        ensures { result ≡ admits self.now item.now.fate }
+    {
+        match item.fate() {
+            Fate::Both if self.is_begun => self.left_out <= self.others,
+            Fate::Both => self.left_out == 0,
+            _ => true,
+        }
+    }
+
+    // The stretch with one frame more.
+    fn after(self, item: &Item) -> Tally
+        requires left_out { self.left_out + 1 < 2 ^ 64 }
+        requires others { self.others + 1 < 2 ^ 64 }
+        ensures { result ≡ tally_after item.now.fate self }
+    {
+        match item.fate() {
+            Fate::Both => Tally {
+                is_begun: true,
+                left_out: 0,
+                others: 0,
+            },
+            Fate::FirstLeftOut => Tally {
+                left_out: self.left_out + 1,
+                ..self
+            },
+            Fate::Second => Tally {
+                others: self.others + 1,
+                ..self
+            },
+            Fate::First | Fate::SecondLeftOut => self,
+        }
+    }
+}
+
+// Whether each frame of a recording that is left out has a reason: the first one's, or with
+// `is_turned` the second one's.
+fn has_reasons(items: &[Item], is_turned: bool) -> bool
+    ensures { result ≡ has_reasons (from_side is_turned items.now) }
+{
+    let mut before: &[u8] = &[];
+    let mut tally = Tally {
+        is_begun: false,
+        left_out: 0,
+        others: 0,
+    };
+    for item in items {
+        let side = item.from_side(is_turned);
+        let is_repeat = is_repeat(before, &side);
+        before = before_after(before, &side);
+        if is_repeat {
+            continue;
+        }
+        if !tally.admits(&side) {
+            return false;
+        }
+        tally = tally.after(&side);
+    }
+    tally.left_out == 0
+}
+
+// Whether a frame is left out and is the one before it once more.
+pub(crate) fn is_repeat(before: &[u8], item: &Item) -> bool
+    ensures { result ≡ is_repeat before.now item.now }
+{
+    !item.fate().stands() && item.fate().is_of_first() && before == item.frame()
+}
+
+// The frame before the next one of the recording.
+pub(crate) fn before_after<'a>(before: &'a [u8], item: &Item<'a>) -> &'a [u8]
+    ensures { result.now ≡ before_after before.now item.now }
+{
+    if item.fate().is_of_first() {
+        item.frame()
+    } else {
+        before
+    }
+}

@@ -6,3 +6,5 @@ pub mod ReasonLemmas
 pub mod TwiceLemmas
 -- what is seen of frames, and what a merge asks
 pub mod MergeLemmas
+-- numbers of frames
+pub mod CountLemmas

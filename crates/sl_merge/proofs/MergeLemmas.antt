@@ -60,7 +60,7 @@ module _ (fates later : List Fate) (fate : Fate) (firsts seconds : List (List �
 
 -- ---- one step of a loop over the channels
 
-range_next : (vc n : ℕ) → n ≡ 8 - vc → vc < 8 → range_with_len vc n ≡ vc ∷ range_with_len (vc + 1) (8 - (vc + 1))
+pub range_next : (vc n : ℕ) → n ≡ 8 - vc → vc < 8 → range_with_len vc n ≡ vc ∷ range_with_len (vc + 1) (8 - (vc + 1))
 range_next vc zero is below = absurd (omega arith)
 range_next vc (suc n) is below = ap (λ k. vc ∷ range_with_len (vc + 1) k) (let e : n ≡ 8 - (vc + 1) = omega arith in e)
 

@@ -1,5 +1,7 @@
 -- what becomes of a frame, and the frames that a list of fates takes
 pub mod Fates
+-- how many frames have which fate
+pub mod Counts
 -- what a merge is
 pub mod Merge
 -- what private functions hold

@@ -163,7 +163,7 @@ fn has_reasons(items: &[Item], is_turned: bool) -> bool
 pub(crate) fn is_repeat(before: &[u8], item: &Item) -> bool
     ensures { result ≡ is_repeat before.now item.now }
 {
-    !item.fate().stands() && item.fate().is_of_first() && before == item.frame()
+    item.is_left_out() && before == item.frame()
 }
 
 // The frame before the next one of the recording.

@@ -3,7 +3,7 @@ ghost use Rattle.std.specs.Prelude.{◌≡◌, ◌≤◌, ℕ, [], ◌∷◌, le
 ghost use Rattle.sl_tmframe.specs.TmDelimited.{tm_frames_of};
 ghost use Rattle.sl_tmframe.specs.TmFrame.{tm_header_of};
 ghost use Rattle.sl_merge.specs.Fates.{fated, fits_both, taken_of};
-ghost use Rattle.sl_merge.specs.Merge.{count_of, payload, vc_of};
+ghost use Rattle.sl_merge.specs.Merge.{count_of, is_left_out, payload, vc_of};
 ghost use Rattle.sl_merge.specs.Told.{Finds, FindsNone, has_none, seen_of, seen_on, turn_if};
 
 use crate::fate::Fate;
@@ -59,6 +59,13 @@ impl<'a> Item<'a> {
         ensures { result ≡ self.now.fate }
     {
         self.fate
+    }
+
+    /// Whether the first recording has the frame, and it doesn't stand.
+    pub fn is_left_out(&self) -> bool
+        ensures { result ≡ is_left_out self.now }
+    {
+        !self.fate.stands() && self.fate.is_of_first()
     }
 
     /// The octets of the frame.

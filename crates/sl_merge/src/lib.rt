@@ -7,6 +7,7 @@
 #![tactic(auto)]
 
 mod channel;
+mod counts;
 mod fate;
 mod item;
 mod merge;
@@ -14,6 +15,7 @@ mod octets;
 mod order;
 mod twice;
 
+pub use counts::{FateCounts, LeftOut, count_fates};
 pub use fate::Fate;
 pub use merge::{is_merge_tm, merged_recording};
 pub use order::{Order, Unordered};

@@ -1,7 +1,7 @@
 -- Numbers of frames.
 use Rattle.std.proofs.Common.{◌≡◌, ◌+◌, ◌-◌, ◌<◌, ◌≤◌, ℕ, Bool, true, false, cond, List, [], ◌∷◌, map, Some, refl, sym, ◌∙◌, ap, ap₂, arith}
 use Rattle.std.specs.Prelude.{◌&&◌, is_none, nat_eq}
-use Rattle.std.specs.List.{count_by, filter, range_with_len, sum}
+use Rattle.std.specs.List.{count_by, range_with_len, sum}
 use Rattle.std.specs.Option.{option_eq}
 use Rattle.std.proofs.lemmas.List.Sums.{sum_by-cons}
 use Rattle.sl_tmframe.specs.TmFrame.{TmFormat}
@@ -72,7 +72,7 @@ counted_none b seen left skipped repeats stretches =
 
 -- ---- what is seen, and the frames
 
-channel_exchanged : (format : TmFormat) (spacecraft vc : ℕ) (items : List Fated)
+pub channel_exchanged : (format : TmFormat) (spacecraft vc : ℕ) (items : List Fated)
     → on_channel format spacecraft vc (exchanged items) ≡ exchanged (on_channel format spacecraft vc items)
 channel_exchanged format spacecraft vc [] = refl
 channel_exchanged format spacecraft vc (item ∷ items) =
@@ -130,6 +130,7 @@ module _ (b : Bool) (format : TmFormat) (spacecraft : ℕ) (items : List Fated) 
     where
       counts_are : (s r t s' r' t' : ℕ) → s ≡ s' → r ≡ r' → t ≡ t' → left_of s r t ≡ left_of s' r' t'
       counts_are s r t s' r' t' e f h = ap (λ n. left_of n r t) e ∙ ap₂ (left_of s') f h
+
       skipped_side : (b : Bool) → count_by (λ (item : Fated). is_left_out (turn_if b item) && is_none (vc_of format spacecraft item.frame)) items
           ≡ count_by (λ (item : Fated). is_left_out (turn_if b item) && is_none (vc_of format spacecraft (turn_if b item).frame)) items
       skipped_side true = refl

@@ -8,3 +8,5 @@ pub mod TwiceLemmas
 pub mod MergeLemmas
 -- numbers of frames
 pub mod CountLemmas
+-- what stands of the first recording, within all that stands
+pub mod WithinLemmas

@@ -1,16 +1,15 @@
 -- What is seen of frames, and what a merge asks.
-use Rattle.std.proofs.Common.{◌≡◌, ◌+◌, ◌-◌, ◌<◌, ◌≤◌, ℕ, zero, suc, Bool, true, false, cond, List, [], ◌∷◌, ◌++◌, map, Some, inl, inr, refl, sym, ◌∙◌, ap, ap₂, append_assoc, append-nil, arith}
+use Rattle.std.proofs.Common.{◌≡◌, ◌+◌, ◌-◌, ◌<◌, ℕ, zero, suc, Bool, true, false, cond, List, [], ◌∷◌, ◌++◌, map, Some, refl, sym, ◌∙◌, ap, ap₂, append_assoc, append-nil, arith}
 use Rattle.std.specs.Prelude.{◌&&◌, ◌||◌, is_some, nat_eq, not}
-use Rattle.std.specs.List.{concat, filter, list_all, range_with_len}
+use Rattle.std.specs.List.{filter, list_all, range_with_len}
 use Rattle.std.specs.Option.{option_eq}
-use Rattle.std.proofs.lemmas.Bool.{cases_Bool}
 use Rattle.sl_tmframe.specs.TmFrame.{TmFormat}
 use Rattle.sl_tmflow.specs.Recording.{virtual_channels}
 use Rattle.sl_merge.specs.declared.fate.Fate.{Fate}
 use Rattle.sl_merge.specs.declared.item.Seen.{Seen}
 use Rattle.sl_merge.specs.Fates.{Fated, fated, fits_both, octets_of, standing, stands, taken, taken_of}
 use Rattle.sl_merge.specs.Merge.{are_read, is_merge, is_merge_on, on_channel, vc_of}
-use Rattle.sl_merge.specs.Told.{Finds, FindsNone, from_side, seen_of, seen_on, turn_if}
+use Rattle.sl_merge.specs.Told.{Finds, FindsNone, from_side, seen_of, seen_on}
 
 -- frames as they are
 pub side_stays : (items : List Fated) → from_side false items ≡ items

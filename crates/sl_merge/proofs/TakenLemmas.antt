@@ -1,5 +1,5 @@
 -- The frames that fates take, one fate after another.
-use Rattle.std.proofs.Common.{◌≡◌, ◌+◌, ◌<◌, ℕ, Bool, true, false, cond, List, [], ◌∷◌, ◌++◌, map, length, take, drop, get_or, inl, inr, refl, sym, ◌∙◌, ap, ap₂, append_assoc, append-nil, length-take-le}
+use Rattle.std.proofs.Common.{◌≡◌, ◌+◌, ◌<◌, ℕ, Bool, true, false, List, [], ◌∷◌, ◌++◌, map, length, take, drop, get_or, inl, inr, refl, sym, ◌∙◌, ap, ap₂, append_assoc, append-nil, length-take-le}
 use Rattle.std.specs.Prelude.{◌&&◌, Some, nat_eq, nat_lt, bytes_eq}
 use Rattle.std.specs.List.{IsSplitAt}
 use Rattle.std.proofs.lemmas.Bool.{cases_lt, le-ltb, lt-ltb}
@@ -10,7 +10,7 @@ use Rattle.std.specs.Option.{option_eq}
 use Rattle.sl_merge.specs.declared.fate.Fate.{Fate}
 use Rattle.sl_merge.specs.declared.fate.Fate.TheVariants.{Both, First, FirstLeftOut, Second, SecondLeftOut}
 use Rattle.sl_merge.specs.declared.item.Seen.{Seen}
-use Rattle.sl_merge.specs.Fates.{Fated, fated, fits, octets_of, standing, taken}
+use Rattle.sl_merge.specs.Fates.{Fated, fated, fits, taken}
 use Rattle.sl_merge.specs.Told.{Finds, FindsNone, has_none, seen_on}
 
 -- ---- one fate

@@ -1,5 +1,5 @@
 -- How many frames of two recordings have which fate.
-use Rattle.std.specs.Prelude.{ℕ, ◌-◌, Bool, not, ◌&&◌, List, [], map, is_none}
+use Rattle.std.specs.Prelude.{ℕ, ◌-◌, ◌&&◌, List, [], map, is_none}
 use Rattle.std.specs.List.{count_by, sum}
 use Rattle.sl_tmframe.specs.TmFrame.{TmFormat}
 use Rattle.sl_tmflow.specs.Recording.{virtual_channels}

@@ -1,6 +1,6 @@
 -- What becomes of the frames of two recordings that are merged: a list of fates, each of which takes the next frame of
 -- the recording that it names, or of both.
-use Rattle.std.specs.Prelude.{ℕ, Bool, true, false, not, cond, ◌&&◌, List, [], ◌∷◌, map, bytes_eq}
+use Rattle.std.specs.Prelude.{ℕ, Bool, true, false, ◌&&◌, List, [], ◌∷◌, map, bytes_eq}
 use Rattle.std.specs.List.{concat, filter}
 use Rattle.sl_tmframe.specs.TmDelimited.{tm_frames_of}
 use Rattle.sl_merge.specs.declared.fate.Fate.{Fate}

@@ -5,11 +5,13 @@ use Rattle.std.specs.List.{count_by, filter, list_all, list_any}
 use Rattle.std.specs.Option.{option_eq}
 use Rattle.sl_tmframe.specs.TmFrame.{TmFormat, TmView, field_len, tm_frame, tm_header_of}
 use Rattle.sl_tmframe.specs.declared.tm_frame.TmSkip.{TmSkip}
+use Rattle.sl_packet.specs.Sublist.{IsSublist}
+use Rattle.sl_tmflow.specs.Loss.{recorded_packets}
 use Rattle.sl_tmflow.specs.Recording.{virtual_channels}
 use Rattle.sl_tmflow.specs.VirtualChannel.{follows}
 use Rattle.sl_merge.specs.declared.fate.Fate.{Fate}
 use Rattle.sl_merge.specs.declared.fate.Fate.TheVariants.{Both, First, FirstLeftOut, Second, SecondLeftOut}
-use Rattle.sl_merge.specs.Fates.{Fated, exchanged, fits_both, of_first, stands, taken_of, turned}
+use Rattle.sl_merge.specs.Fates.{Fated, exchanged, first_kept, fits_both, merged_octets, of_first, second_kept, stands, taken_of, turned}
 
 -- ---- channels
 
@@ -185,3 +187,13 @@ is_merge format spacecraft one other fates =
     fits_both format.len one other fates && (are_read format spacecraft (taken_of format.len one other fates)
     && list_all (λ vc. is_merge_on format (on_channel format spacecraft vc (taken_of format.len one other fates)))
     virtual_channels)
+
+-- The merged recording delivers on a virtual channel all packets that each recording delivers there without what is left
+-- out, in their order, idle packets left out.
+pub record LosesNoPacket (format : TmFormat) (spacecraft vc : ℕ) (one other : List ℕ) (fates : List Fate) : Type 0 where
+  pub first :
+      IsSublist (recorded_packets format spacecraft vc (first_kept format.len one other fates))
+      (recorded_packets format spacecraft vc (merged_octets format.len one other fates))
+  pub second :
+      IsSublist (recorded_packets format spacecraft vc (second_kept format.len one other fates))
+      (recorded_packets format spacecraft vc (merged_octets format.len one other fates))

@@ -1,6 +1,6 @@
 -- What a private function makes of fates: frames, each with its fate and with what is read of it. Contracts of private
 -- functions alone cite this.
-use Rattle.std.specs.Prelude.{◌≡◌, ◌≤◌, ℕ, ◌+◌, min, Bool, true, false, cond, ◌&&◌, List, [], ◌∷◌, length, map, Option, Some, nat_eq, bytes_eq}
+use Rattle.std.specs.Prelude.{◌≡◌, ◌≤◌, ℕ, Bool, true, false, cond, ◌&&◌, List, [], ◌∷◌, length, map, Some, nat_eq}
 use Rattle.std.specs.List.{filter}
 use Rattle.std.specs.Option.{option_eq}
 use Rattle.sl_tmframe.specs.TmFrame.{TmFormat}

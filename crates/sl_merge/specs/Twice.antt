@@ -1,6 +1,6 @@
 -- What tells whether a frame would stand twice: which octets stand as a frame of the second recording alone, and how often
 -- each payload comes. Contracts of private functions alone cite this.
-use Rattle.std.specs.Prelude.{◌≡◌, ℕ, ◌+◌, min, Bool, cond, ◌&&◌, ◌||◌, nat_le, not, List, [], unwrap_or, bytes_eq}
+use Rattle.std.specs.Prelude.{◌≡◌, ℕ, ◌+◌, min, Bool, cond, ◌&&◌, ◌||◌, not, List, [], unwrap_or, bytes_eq}
 use Rattle.std.specs.HashMap.{HashMap, get_by}
 use Rattle.std.specs.HashSet.{HashSet, contains}
 use Rattle.sl_tmframe.specs.TmFrame.{TmFormat}

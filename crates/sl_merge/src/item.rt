@@ -1,5 +1,5 @@
 //! The frames of two recordings, each with its fate.
-ghost use Rattle.std.specs.Prelude.{◌≡◌, ◌≤◌, ℕ, [], ◌∷◌, length, map, IfOk, IfSome, MatchOption};
+ghost use Rattle.std.specs.Prelude.{◌≡◌, ◌<◌, ◌≤◌, ℕ, [], ◌∷◌, length, map, IfOk, IfSome, MatchOption, OnOk};
 ghost use Rattle.sl_tmframe.specs.TmDelimited.{tm_frames_of};
 ghost use Rattle.sl_tmframe.specs.TmFrame.{tm_header_of};
 ghost use Rattle.sl_merge.specs.Fates.{fated, fits_both, taken_of};
@@ -131,6 +131,7 @@ pub fn take_frames<'a>(
         (taken_of shape.now.len one.now other.now fates.now)) }
     ensures fits { IfOk result (λ told.
         told.fits ≡ fits_both shape.now.len one.now other.now fates.now) }
+    ensures positive { OnOk result (0 < shape.now.len) }
 {
     let mut items = Vec::with_capacity(alloc, fates.len())?;
     let mut fits = true;
@@ -145,7 +146,8 @@ pub fn take_frames<'a>(
             None => return Ok(Told { items, fits: false }),
         }
     }
-    let fits = fits && has_none(shape, firsts) && has_none(shape, seconds);
+    let is_used_up = has_none(shape, firsts) && has_none(shape, seconds);
+    let fits = fits && is_used_up;
     Ok(Told { items, fits })
 }
 
@@ -165,6 +167,7 @@ pub fn next_frame<'a>(
         (tm_frames_of shape.now.len seconds.new.now)) }
     ensures len { IfSome result (λ found. length found.0.now ≡ shape.now.len) }
     ensures long { IfSome result (λ found. 12 ≤ length found.0.now) }
+    ensures positive { 0 < shape.now.len }
 {
     match fate {
         Fate::Both => {
@@ -184,6 +187,7 @@ fn next_of<'a>(shape: &TmShape, octets: &mut &'a [u8]) -> Option<&'a [u8]>
         ≡ frame.now ∷ tm_frames_of shape.now.len octets.new.now) }
     ensures len { IfSome result (λ frame. length frame.now ≡ shape.now.len) }
     ensures long { IfSome result (λ frame. 12 ≤ length frame.now) }
+    ensures positive { 0 < shape.now.len }
 {
     let left: &'a [u8] = *octets;
     let (frame, later) = left.split_at_checked(usize::from(shape.len()))?;
@@ -193,7 +197,8 @@ fn next_of<'a>(shape: &TmShape, octets: &mut &'a [u8]) -> Option<&'a [u8]>
 
 // Whether octets have no whole frame.
 fn has_none(shape: &TmShape, octets: &[u8]) -> bool
-    ensures { result ≡ has_none (tm_frames_of shape.now.len octets.now) }
+    ensures none { result ≡ has_none (tm_frames_of shape.now.len octets.now) }
+    ensures positive { 0 < shape.now.len }
 {
     octets.len() < usize::from(shape.len())
 }

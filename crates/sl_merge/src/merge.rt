@@ -1,8 +1,8 @@
 //! Whether fates tell a merge, and the merged recording.
-ghost use Rattle.std.specs.Prelude.{◌≡◌, ◌||◌, not, is_some, IfOk};
+ghost use Rattle.std.specs.Prelude.{◌≡◌, ◌||◌, ◌<◌, ℕ, not, is_some, IfOk, IsTrue};
 ghost use Rattle.std.specs.List.{list_all};
 ghost use Rattle.sl_merge.specs.Fates.{merged_octets, stands};
-ghost use Rattle.sl_merge.specs.Merge.{is_merge, is_merge_on};
+ghost use Rattle.sl_merge.specs.Merge.{LosesNoPacket, is_merge, is_merge_on};
 
 use crate::channel::keeps_side;
 use crate::fate::Fate;
@@ -54,6 +54,9 @@ pub fn is_merge_tm<S: BuildHasher + Copy>(
     // The answer is what the definition says.
     ensures exactly { IfOk result (λ is.
         is ≡ is_merge shape.now spacecraft one.now other.now fates.now) }
+    // A merge delivers all packets that each recording delivers without what is left out.
+    ensures packets { IfOk result (λ is. IsTrue is → (vc : ℕ) → vc < 8
+        → LosesNoPacket shape.now spacecraft vc one.now other.now fates.now) }
 {
     let told = take_frames(alloc, shape, spacecraft, one, other, fates)?;
     if !told.fits {

@@ -1,5 +1,4 @@
-use Rattle.std.proofs.Common.{◌≡◌, ◌∙◌, ◌+◌, ◌<◌, ◌≤◌, ℕ, Bool, false, true, List, length, drop, ap, arith, sym}
-use Rattle.std.specs.Prelude.{not}
+use Rattle.std.proofs.Common.{◌≡◌, ◌∙◌, ◌+◌, ◌<◌, false, true, length, drop, arith, sym}
 use Rattle.sl_merge.specs.Merge.{before_after, is_repeat}
 use Rattle.sl_merge.specs.Tally.{admits, tally_after}
 use Rattle.sl_merge.specs.Told.{turn_if}

@@ -1,4 +1,4 @@
-use Rattle.std.proofs.Common.{◌≡◌, ◌∙◌, ◌+◌, ◌<◌, ◌≤◌, Bool, false, true, ap, arith, map, sym, refl}
+use Rattle.std.proofs.Common.{◌≡◌, ◌∙◌, ◌+◌, ◌<◌, ◌≤◌, false, true, ap, arith, map}
 use Rattle.std.specs.List.{count_by}
 use Rattle.sl_merge.specs.Counts.{fate_counts, left_out_first, left_out_of, repeats_of}
 use Rattle.sl_merge.specs.Fates.{Fated, exchanged, taken_of}

@@ -1,10 +1,10 @@
-use Rattle.std.proofs.Common.{◌≡◌, ◌∙◌, ◌+◌, ◌-◌, ◌<◌, Bool, false, true, ap, ap₂, arith, sym, refl}
-use Rattle.std.specs.Prelude.{◌&&◌}
+use Rattle.std.proofs.Common.{◌≡◌, ◌∙◌, ◌-◌, ◌<◌, false, true, ap, arith, sym, refl}
 use Rattle.std.specs.List.{list_all, range_with_len}
 use Rattle.sl_tmflow.specs.Recording.{virtual_channels}
 use Rattle.sl_merge.specs.Merge.{is_merge, is_merge_on}
 use Rattle.sl_merge.specs.Told.{seen_on}
 use Rattle.sl_merge.proofs.MergeLemmas.{answer, answer_by, channels_more, channels_not, sees_merge, sees_read}
+use Rattle.sl_merge.proofs.WithinLemmas.{packets_stay}
 use Rattle.sl_merge.proofs.merge.is_merge_tm.Goals as goal
 
 pub returns-then-not-told : goal.returns-then-not-told
@@ -14,7 +14,8 @@ returns-then-not-told g c =
     let format = c.args.shape.now in
     record {
       exactly = sym (answer format c.args.spacecraft c.args.one.now c.args.other.now c.args.fates.now seen false c.in_ok-told.ensures.items
-      (sym fails ∙ c.in_ok-told.ensures.fits));
+          (sym fails ∙ c.in_ok-told.ensures.fits));
+      packets = λ holds vc below. absurd (cc);
     }
 
 pub returns-then-not-are_read : goal.returns-then-not-are_read
@@ -25,7 +26,8 @@ returns-then-not-are_read g c =
     let unread : sees_read seen ≡ false = ap sees_read (sym c.deref.ensures.value) ∙ sym c.if-not-are_read.ensures in
     record {
       exactly = sym (answer_by format c.args.spacecraft c.args.one.now c.args.other.now c.args.fates.now seen true c.in_ok-told.ensures.items
-      (sym fits ∙ c.in_ok-told.ensures.fits) false (list_all (sees_merge format seen) virtual_channels) unread refl);
+          (sym fits ∙ c.in_ok-told.ensures.fits) false (list_all (sees_merge format seen) virtual_channels) unread refl);
+      packets = λ holds vc below. absurd (cc);
     }
 
 pub loop-vc-preserved : goal.loop-vc-preserved
@@ -46,10 +48,14 @@ returns g c =
     let fits : c.in_ok-told.told.fits ≡ true = c.if-not-told.false in
     let read : sees_read seen ≡ true = ap sees_read (sym c.deref.ensures.value) ∙ sym c.if-not-are_read.ensures in
     let none : 8 - c.loop-vc.vc ≡ 0 = omega arith in
+    let positive : 0 < format.len = c.in_ok-told.ensures.positive in
+    let merges : is_merge format c.args.spacecraft c.args.one.now c.args.other.now c.args.fates.now ≡ true =
+    answer_by format c.args.spacecraft c.args.one.now c.args.other.now c.args.fates.now seen true c.in_ok-told.ensures.items
+    (sym fits ∙ c.in_ok-told.ensures.fits) true true read
+    (sym c.loop-vc.invariant ∙ ap (λ n. list_all (sees_merge format seen) (range_with_len c.loop-vc.vc n)) none) in
     record {
-      exactly = sym (answer_by format c.args.spacecraft c.args.one.now c.args.other.now c.args.fates.now seen true c.in_ok-told.ensures.items
-      (sym fits ∙ c.in_ok-told.ensures.fits) true true read
-      (sym c.loop-vc.invariant ∙ ap (λ n. list_all (sees_merge format seen) (range_with_len c.loop-vc.vc n)) none));
+      exactly = sym merges;
+      packets = λ holds. packets_stay format c.args.spacecraft c.args.one.now c.args.other.now c.args.fates.now positive merges;
     }
 
 pub returns-then-not-is_right : goal.returns-then-not-is_right
@@ -65,5 +71,6 @@ returns-then-not-is_right g c =
     ∙ sym c.in_ok-is_right.ensures ∙ c.if-not-is_right.true in
     record {
       exactly = sym (answer_by format c.args.spacecraft c.args.one.now c.args.other.now c.args.fates.now seen true c.in_ok-told.ensures.items
-      (sym fits ∙ c.in_ok-told.ensures.fits) true false read (sym c.loop-vc.invariant ∙ channels_not (sees_merge format seen) vc below wrong));
+          (sym fits ∙ c.in_ok-told.ensures.fits) true false read (sym c.loop-vc.invariant ∙ channels_not (sees_merge format seen) vc below wrong));
+      packets = λ holds v in_range. absurd (cc);
     }

@@ -1,11 +1,10 @@
-use Rattle.std.proofs.Common.{◌∙◌, ◌+◌, ◌≤◌, ◌<◌, ◌≡◌, ℕ, List, [], Bool, true, ap, arith, drop, length, sym}
+use Rattle.std.proofs.Common.{◌∙◌, ◌≤◌, ◌<◌, ◌≡◌, ℕ, [], true, ap, arith, sym}
 use Rattle.std.specs.Prelude.{◌||◌, bytes_eq, nat_le, unwrap_or}
 use Rattle.std.specs.HashMap.{get_by}
 use Rattle.std.specs.HashSet.{contains}
 use Rattle.std.proofs.lemmas.Bool.Decides.{nat_tests}
-use Rattle.sl_merge.specs.Fates.{Fated}
 use Rattle.sl_merge.specs.Merge.{is_first_alone, is_in_second, payload}
-use Rattle.sl_merge.specs.Twice.{HasSeconds, HasTimes, is_excused, no_times, times_more}
+use Rattle.sl_merge.specs.Twice.{no_times, times_more}
 use Rattle.sl_merge.proofs.TwiceLemmas.{excused_by}
 use Rattle.sl_merge.proofs.twice.is_excused.Goals as goal
 

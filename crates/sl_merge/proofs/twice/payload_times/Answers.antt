@@ -1,8 +1,8 @@
-use Rattle.std.proofs.Common.{◌∙◌, ◌+◌, ◌<◌, ◌≡◌, ℕ, List, Some, ap, arith, cond, drop, length, sym}
+use Rattle.std.proofs.Common.{◌∙◌, ◌+◌, ◌<◌, ◌≡◌, ℕ, List, Some, ap, arith, cond, drop, length}
 use Rattle.std.specs.Prelude.{bytes_eq, unwrap_or}
 use Rattle.std.specs.HashMap.{get_by}
 use Rattle.sl_merge.specs.Merge.{payload}
-use Rattle.sl_merge.specs.Twice.{no_times, times_after}
+use Rattle.sl_merge.specs.Twice.{no_times}
 use Rattle.sl_merge.proofs.TakenLemmas.{next_here}
 use Rattle.sl_merge.proofs.TwiceLemmas.{times_step}
 use Rattle.sl_merge.proofs.twice.payload_times.Goals as goal

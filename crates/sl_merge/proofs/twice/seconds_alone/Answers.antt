@@ -1,4 +1,4 @@
-use Rattle.std.proofs.Common.{◌∙◌, ◌+◌, ◌<◌, ◌≡◌, Bool, true, cond, ap, arith, drop, length, sym}
+use Rattle.std.proofs.Common.{◌∙◌, ◌+◌, ◌<◌, ◌≡◌, true, cond, ap, arith, drop, length}
 use Rattle.std.specs.Prelude.{bytes_eq}
 use Rattle.std.specs.HashSet.{contains}
 use Rattle.sl_merge.specs.Fates.{turned}

@@ -9,9 +9,9 @@ use Rattle.sl_tmflow.specs.Recording.{virtual_channels}
 use Rattle.sl_merge.specs.declared.counts.FateCounts.{FateCounts}
 use Rattle.sl_merge.specs.declared.counts.LeftOut.{LeftOut}
 use Rattle.sl_merge.specs.declared.item.Seen.{Seen}
-use Rattle.sl_merge.specs.Counts.{left_out_first, left_out_of, repeats_of}
+use Rattle.sl_merge.specs.Counts.{left_out_first, repeats_of}
+use Rattle.sl_merge.specs.Merge.{is_first_alone, is_left_out, left_out_of, on_channel, vc_of}
 use Rattle.sl_merge.specs.Fates.{Fated, exchanged, turned_item}
-use Rattle.sl_merge.specs.Merge.{is_first_alone, is_left_out, on_channel, vc_of}
 use Rattle.sl_merge.specs.Told.{from_side, seen_of, seen_on, turn_if}
 use Rattle.sl_merge.proofs.MergeLemmas.{range_next, seen_on_channel, side_stays}
 
@@ -20,7 +20,7 @@ use Rattle.sl_merge.proofs.MergeLemmas.{range_next, seen_on_channel, side_stays}
 abbrev pub bit : Bool → ℕ
 bit b = cond b 1 0
 
-count-cons : {X : Type 0} (p : X → Bool) (x : X) (xs : List X) → count_by p (x ∷ xs) ≡ bit (p x) + count_by p xs
+pub count-cons : {X : Type 0} (p : X → Bool) (x : X) (xs : List X) → count_by p (x ∷ xs) ≡ bit (p x) + count_by p xs
 count-cons p x xs = sum_by-cons (λ y. bit (p y)) x xs
 
 pub count-map : {X Y : Type 0} (f : X → Y) (p : Y → Bool) (xs : List X) → count_by p (map f xs) ≡ count_by (λ x. p (f x)) xs

@@ -10,3 +10,9 @@ pub mod MergeLemmas
 pub mod CountLemmas
 -- what stands of the first recording, within all that stands
 pub mod WithinLemmas
+-- frames that are the one before them once more
+pub mod RepeatLemmas
+-- worked examples
+mod MergeFacts
+-- what a recording delivers
+pub mod RecordedLemmas

@@ -135,7 +135,7 @@ is_on format spacecraft vc frame = option_eq nat_eq (vc_of format spacecraft fra
 abbrev pub frames_in : List Fated → List (List ℕ)
 frames_in items = map (λ (item : Fated). item.frame) items
 
-viewed : (format : TmFormat) (spacecraft vc : ℕ) (items : List Fated)
+pub viewed : (format : TmFormat) (spacecraft vc : ℕ) (items : List Fated)
     → views_on vc (views_of format spacecraft (frames_in items)) ≡ seen_as format (is_on format spacecraft vc) items
 viewed format spacecraft vc [] = refl
 viewed format spacecraft vc (item ∷ items) =
@@ -167,7 +167,7 @@ taken_long len (Second ∷ fates) firsts (frame ∷ seconds) a b = (b.0, taken_l
 taken_long len (SecondLeftOut ∷ fates) firsts [] a b = tt
 taken_long len (SecondLeftOut ∷ fates) firsts (frame ∷ seconds) a b = (b.0, taken_long len fates firsts seconds a b.1)
 
-long_filter : (len : ℕ) (test : Fated → Bool) (items : List Fated) → AreLong len items → AreWhole len (frames_in (filter test items))
+pub long_filter : (len : ℕ) (test : Fated → Bool) (items : List Fated) → AreLong len items → AreWhole len (frames_in (filter test items))
 long_filter len test [] long = tt
 long_filter len test (item ∷ items) long = cases (test item) (long_filter len test items long.1)
   where
@@ -175,7 +175,7 @@ long_filter len test (item ∷ items) long = cases (test item) (long_filter len 
     cases true rest = (long.0, rest)
     cases false rest = rest
 
-long_exchanged : (len : ℕ) (items : List Fated) → AreLong len items → AreLong len (exchanged items)
+pub long_exchanged : (len : ℕ) (items : List Fated) → AreLong len items → AreLong len (exchanged items)
 long_exchanged len [] long = tt
 long_exchanged len (item ∷ items) long = (long.0, long_exchanged len items long.1)
 
@@ -187,7 +187,7 @@ frames_again len items positive whole =
     ∙ ap (λ l. frames_in items ++ l) (frames_of-short len [] positive)
     ∙ append-nil (frames_in items)
 
-recorded_as : (format : TmFormat) (spacecraft vc : ℕ) (items : List Fated) → 0 < format.len → AreWhole format.len (frames_in items)
+pub recorded_as : (format : TmFormat) (spacecraft vc : ℕ) (items : List Fated) → 0 < format.len → AreWhole format.len (frames_in items)
     → recorded_channel format spacecraft vc (octets_of items) ≡ seen_as format (is_on format spacecraft vc) items
 recorded_as format spacecraft vc items positive whole =
     ap (λ frames. views_on vc (views_of format spacecraft frames)) (frames_again format.len items positive whole) ∙ viewed format spacecraft vc items

@@ -1,17 +1,14 @@
 -- How many frames of two recordings have which fate.
-use Rattle.std.specs.Prelude.{ℕ, ◌-◌, ◌&&◌, List, [], map, is_none}
+use Rattle.std.specs.Prelude.{ℕ, ◌-◌, ◌&&◌, List, map, is_none}
 use Rattle.std.specs.List.{count_by, sum}
 use Rattle.sl_tmframe.specs.TmFrame.{TmFormat}
 use Rattle.sl_tmflow.specs.Recording.{virtual_channels}
 use Rattle.sl_merge.specs.declared.counts.FateCounts.{FateCounts}
 use Rattle.sl_merge.specs.declared.counts.LeftOut.{LeftOut}
 use Rattle.sl_merge.specs.Fates.{Fated, exchanged}
-use Rattle.sl_merge.specs.Merge.{is_both, is_first_alone, is_left_out, on_channel, vc_of, without_repeats}
+use Rattle.sl_merge.specs.Merge.{is_both, is_first_alone, is_left_out, left_out_of, on_channel, vc_of}
 
--- how many frames of the first recording are left out on a channel, repeats aside, and how many repeats
-abbrev pub left_out_of : List Fated → ℕ
-left_out_of items = count_by is_left_out (without_repeats [] items)
-
+-- how many repeats the first recording has on a channel
 abbrev pub repeats_of : List Fated → ℕ
 repeats_of items = count_by is_left_out items - left_out_of items
 

@@ -1,11 +1,12 @@
 -- Whether a list of fates tells a merge of two recordings of TM transfer frames, CCSDS 132.0-B. What a merge is, is this
 -- project's own choice. All but the last definitions look at the frames of one virtual channel.
-use Rattle.std.specs.Prelude.{ℕ, ◌+◌, ◌==◌, nat_eq, nat_le, Bool, true, false, not, cond, ◌&&◌, ◌||◌, List, [], ◌∷◌, take, drop, Option, None, Some, Result, Ok, Err, is_some, bytes_eq}
+use Rattle.std.specs.Prelude.{◌≡◌, ℕ, ◌+◌, ◌==◌, nat_eq, nat_le, Bool, true, false, not, cond, ◌&&◌, ◌||◌, List, [], ◌∷◌, take, drop, Option, None, Some, Result, Ok, Err, is_some, bytes_eq}
 use Rattle.std.specs.List.{count_by, filter, list_all, list_any}
 use Rattle.std.specs.Option.{option_eq}
 use Rattle.sl_tmframe.specs.TmFrame.{TmFormat, TmView, field_len, tm_frame, tm_header_of}
 use Rattle.sl_tmframe.specs.declared.tm_frame.TmSkip.{TmSkip}
 use Rattle.sl_packet.specs.Sublist.{IsSublist}
+use Rattle.sl_tmflow.specs.Among.{IsAmong}
 use Rattle.sl_tmflow.specs.Loss.{recorded_packets}
 use Rattle.sl_tmflow.specs.Recording.{virtual_channels}
 use Rattle.sl_tmflow.specs.VirtualChannel.{follows}
@@ -137,6 +138,10 @@ are_fair (stretch ∷ later) = (stretch.left_out == 0) && are_fair_later later
 abbrev pub has_reasons : List Fated → Bool
 has_reasons items = are_fair (stretches (without_repeats [] items))
 
+-- how many frames of the first recording are left out on a virtual channel, repeats aside
+abbrev pub left_out_of : List Fated → ℕ
+left_out_of items = count_by is_left_out (without_repeats [] items)
+
 -- ---- frames that would stand twice
 
 -- The payload of a frame: what follows the frame counts, up to the operational control field, or else the error control
@@ -197,3 +202,15 @@ pub record LosesNoPacket (format : TmFormat) (spacecraft vc : ℕ) (one other : 
   pub second :
       IsSublist (recorded_packets format spacecraft vc (second_kept format.len one other fates))
       (recorded_packets format spacecraft vc (merged_octets format.len one other fates))
+
+-- Where no frame of a recording is left out on a virtual channel but repeats, the merged recording delivers there each
+-- packet that the recording delivers, idle packets left out.
+pub record DeliversRecorded (format : TmFormat) (spacecraft vc : ℕ) (one other : List ℕ) (fates : List Fate) : Type 0 where
+  pub first :
+      left_out_of (on_channel format spacecraft vc (taken_of format.len one other fates)) ≡ 0
+      → (packet : List ℕ) → IsAmong packet (recorded_packets format spacecraft vc one)
+      → IsAmong packet (recorded_packets format spacecraft vc (merged_octets format.len one other fates))
+  pub second :
+      left_out_of (on_channel format spacecraft vc (exchanged (taken_of format.len one other fates))) ≡ 0
+      → (packet : List ℕ) → IsAmong packet (recorded_packets format spacecraft vc other)
+      → IsAmong packet (recorded_packets format spacecraft vc (merged_octets format.len one other fates))

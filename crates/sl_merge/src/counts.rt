@@ -1,9 +1,9 @@
 //! How many frames have which fate.
 ghost use Rattle.std.specs.Prelude.{◌≡◌, ◌+◌, ◌&&◌, IfOk, is_none};
 ghost use Rattle.std.specs.List.{count_by};
-ghost use Rattle.sl_merge.specs.Counts.{fate_counts, left_out_of, repeats_of};
+ghost use Rattle.sl_merge.specs.Counts.{fate_counts, repeats_of};
 ghost use Rattle.sl_merge.specs.Fates.{taken_of};
-ghost use Rattle.sl_merge.specs.Merge.{is_both, is_first_alone, is_left_out};
+ghost use Rattle.sl_merge.specs.Merge.{is_both, is_first_alone, is_left_out, left_out_of};
 ghost use Rattle.sl_merge.specs.Told.{from_side, turn_if};
 
 use crate::channel::{before_after, is_repeat};

@@ -21,7 +21,7 @@ pub enum Fate {
 
 impl Fate {
     /// Whether the frame stands in the merge.
-    pub fn stands(self) -> bool
+    pub(crate) fn stands(self) -> bool
         ensures { result ≡ stands self }
     {
         match self {
@@ -31,7 +31,7 @@ impl Fate {
     }
 
     /// Whether the first recording has the frame.
-    pub fn is_of_first(self) -> bool
+    pub(crate) fn is_of_first(self) -> bool
         ensures { result ≡ of_first self }
     {
         match self {
@@ -41,7 +41,7 @@ impl Fate {
     }
 
     /// The fate with the recordings exchanged.
-    pub fn turned(self) -> Fate
+    pub(crate) fn turned(self) -> Fate
         ensures { result ≡ turned self }
     {
         match self {
@@ -54,7 +54,7 @@ impl Fate {
     }
 
     /// Whether the frame stands in the merge as one of the first recording alone.
-    pub fn is_first_alone(self) -> bool
+    pub(crate) fn is_first_alone(self) -> bool
         ensures { result ≡ is_first_alone self }
     {
         self.stands() && !self.turned().is_of_first()

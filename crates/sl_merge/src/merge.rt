@@ -2,7 +2,8 @@
 ghost use Rattle.std.specs.Prelude.{◌≡◌, ◌||◌, ◌<◌, ℕ, not, is_some, IfOk, IsTrue};
 ghost use Rattle.std.specs.List.{list_all};
 ghost use Rattle.sl_merge.specs.Fates.{merged_octets, stands};
-ghost use Rattle.sl_merge.specs.Merge.{LosesNoPacket, is_merge, is_merge_on};
+ghost use Rattle.sl_merge.specs.Merge.{DeliversRecorded, LosesNoPacket, is_merge};
+ghost use Rattle.sl_merge.specs.Merge.{is_merge_on};
 
 use crate::channel::keeps_side;
 use crate::fate::Fate;
@@ -57,6 +58,9 @@ pub fn is_merge_tm<S: BuildHasher + Copy>(
     // A merge delivers all packets that each recording delivers without what is left out.
     ensures packets { IfOk result (λ is. IsTrue is → (vc : ℕ) → vc < 8
         → LosesNoPacket shape.now spacecraft vc one.now other.now fates.now) }
+    // Where nothing is left out on a channel but repeats, it delivers each packet of the recording.
+    ensures recorded { IfOk result (λ is. IsTrue is → (vc : ℕ) → vc < 8
+        → DeliversRecorded shape.now spacecraft vc one.now other.now fates.now) }
 {
     let told = take_frames(alloc, shape, spacecraft, one, other, fates)?;
     if !told.fits {

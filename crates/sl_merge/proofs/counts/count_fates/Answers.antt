@@ -1,8 +1,8 @@
 use Rattle.std.proofs.Common.{◌≡◌, ◌∙◌, ◌+◌, ◌<◌, ◌≤◌, false, true, ap, arith, map}
 use Rattle.std.specs.List.{count_by}
-use Rattle.sl_merge.specs.Counts.{fate_counts, left_out_first, left_out_of, repeats_of}
+use Rattle.sl_merge.specs.Counts.{fate_counts, left_out_first, repeats_of}
+use Rattle.sl_merge.specs.Merge.{is_both, is_first_alone, left_out_of}
 use Rattle.sl_merge.specs.Fates.{Fated, exchanged, taken_of}
-use Rattle.sl_merge.specs.Merge.{is_both, is_first_alone}
 use Rattle.sl_merge.specs.Told.{from_side, seen_of, seen_on, turn_if}
 use Rattle.sl_merge.specs.declared.item.Seen.{Seen}
 use Rattle.sl_merge.proofs.CountLemmas.{alone_seen, count-map, counted_more, counted_none, counts_are, left_out_seen, skipped_in}

@@ -1,7 +1,6 @@
 use Rattle.std.proofs.Common.{◌≡◌, ◌≤◌, ◌+◌, drop}
 use Rattle.std.specs.List.{count_by}
-use Rattle.sl_merge.specs.Counts.{left_out_of}
-use Rattle.sl_merge.specs.Merge.{is_left_out, without_repeats}
+use Rattle.sl_merge.specs.Merge.{is_left_out, left_out_of, without_repeats}
 use Rattle.sl_merge.specs.Told.{from_side}
 use Rattle.sl_merge.proofs.counts.count_left_out.Given as goal
 

@@ -4,6 +4,7 @@ use Rattle.sl_tmflow.specs.Recording.{virtual_channels}
 use Rattle.sl_merge.specs.Merge.{is_merge, is_merge_on}
 use Rattle.sl_merge.specs.Told.{seen_on}
 use Rattle.sl_merge.proofs.MergeLemmas.{answer, answer_by, channels_more, channels_not, sees_merge, sees_read}
+use Rattle.sl_merge.proofs.RecordedLemmas.{recorded_stay}
 use Rattle.sl_merge.proofs.WithinLemmas.{packets_stay}
 use Rattle.sl_merge.proofs.merge.is_merge_tm.Goals as goal
 
@@ -16,6 +17,7 @@ returns-then-not-told g c =
       exactly = sym (answer format c.args.spacecraft c.args.one.now c.args.other.now c.args.fates.now seen false c.in_ok-told.ensures.items
           (sym fails ∙ c.in_ok-told.ensures.fits));
       packets = λ holds vc below. absurd (cc);
+      recorded = λ holds vc below. absurd (cc);
     }
 
 pub returns-then-not-are_read : goal.returns-then-not-are_read
@@ -28,6 +30,7 @@ returns-then-not-are_read g c =
       exactly = sym (answer_by format c.args.spacecraft c.args.one.now c.args.other.now c.args.fates.now seen true c.in_ok-told.ensures.items
           (sym fits ∙ c.in_ok-told.ensures.fits) false (list_all (sees_merge format seen) virtual_channels) unread refl);
       packets = λ holds vc below. absurd (cc);
+      recorded = λ holds vc below. absurd (cc);
     }
 
 pub loop-vc-preserved : goal.loop-vc-preserved
@@ -56,6 +59,7 @@ returns g c =
     record {
       exactly = sym merges;
       packets = λ holds. packets_stay format c.args.spacecraft c.args.one.now c.args.other.now c.args.fates.now positive merges;
+      recorded = λ holds. recorded_stay format c.args.spacecraft c.args.one.now c.args.other.now c.args.fates.now positive merges;
     }
 
 pub returns-then-not-is_right : goal.returns-then-not-is_right
@@ -73,4 +77,5 @@ returns-then-not-is_right g c =
       exactly = sym (answer_by format c.args.spacecraft c.args.one.now c.args.other.now c.args.fates.now seen true c.in_ok-told.ensures.items
           (sym fits ∙ c.in_ok-told.ensures.fits) true false read (sym c.loop-vc.invariant ∙ channels_not (sees_merge format seen) vc below wrong));
       packets = λ holds v in_range. absurd (cc);
+      recorded = λ holds v in_range. absurd (cc);
     }

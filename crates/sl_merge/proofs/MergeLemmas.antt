@@ -1,5 +1,5 @@
 -- What is seen of frames, and what a merge asks.
-use Rattle.std.proofs.Common.{◌≡◌, ◌+◌, ◌-◌, ◌<◌, ℕ, zero, suc, Bool, true, false, cond, List, [], ◌∷◌, ◌++◌, map, Some, refl, sym, ◌∙◌, ap, ap₂, append_assoc, append-nil, arith}
+use Rattle.std.proofs.Common.{◌≡◌, ◌+◌, ◌-◌, ◌<◌, ℕ, zero, suc, Bool, true, false, cond, List, [], ◌∷◌, map, Some, refl, sym, ◌∙◌, ap, ap₂, arith}
 use Rattle.std.specs.Prelude.{◌&&◌, ◌||◌, is_some, nat_eq, not}
 use Rattle.std.specs.List.{filter, list_all, range_with_len}
 use Rattle.std.specs.Option.{option_eq}
@@ -7,9 +7,9 @@ use Rattle.sl_tmframe.specs.TmFrame.{TmFormat}
 use Rattle.sl_tmflow.specs.Recording.{virtual_channels}
 use Rattle.sl_merge.specs.declared.fate.Fate.{Fate}
 use Rattle.sl_merge.specs.declared.item.Seen.{Seen}
-use Rattle.sl_merge.specs.Fates.{Fated, fated, fits_both, octets_of, standing, stands, taken, taken_of}
+use Rattle.sl_merge.specs.Fates.{Fated, fits_both, stands, taken_of}
 use Rattle.sl_merge.specs.Merge.{are_read, is_merge, is_merge_on, on_channel, vc_of}
-use Rattle.sl_merge.specs.Told.{Finds, FindsNone, from_side, seen_of, seen_on}
+use Rattle.sl_merge.specs.Told.{from_side, seen_of, seen_on}
 
 -- frames as they are
 pub side_stays : (items : List Fated) → from_side false items ≡ items
@@ -34,28 +34,6 @@ pub seen_are_read : (format : TmFormat) (spacecraft : ℕ) (items : List Fated)
 seen_are_read format spacecraft [] = refl
 seen_are_read format spacecraft (item ∷ items) =
     ap (λ b. (not (stands item.fate) || is_some (vc_of format spacecraft item.frame)) && b) (seen_are_read format spacecraft items)
-
--- ---- one step of a loop over the fates
-
-module _ (fates later : List Fate) (fate : Fate) (firsts seconds : List (List ℕ)) (is : fates ≡ fate ∷ later) where
-  module _ (frame : List ℕ) (same : Bool) (firsts' seconds' : List (List ℕ)) (found : Finds fate frame same firsts seconds firsts' seconds') where
-    now : standing (taken fates firsts seconds) ≡ cond (stands fate) (fated fate frame ∷ standing (taken later firsts' seconds')) (standing (taken later firsts' seconds'))
-    now = ap standing (ap (λ f. taken f firsts seconds) is ∙ found.taken later)
-
-    pub octets_more : stands fate ≡ true → (before : List ℕ)
-        → (before ++ frame) ++ octets_of (standing (taken later firsts' seconds')) ≡ before ++ octets_of (standing (taken fates firsts seconds))
-    octets_more holds before =
-        append_assoc before frame (octets_of (standing (taken later firsts' seconds')))
-        ∙ ap (λ l. before ++ l) (sym (ap octets_of (now ∙ ap (λ b. cond b (fated fate frame ∷ standing (taken later firsts' seconds')) (standing (taken later firsts' seconds'))) holds)))
-
-    pub octets_same : stands fate ≡ false → (before : List ℕ)
-        → before ++ octets_of (standing (taken later firsts' seconds')) ≡ before ++ octets_of (standing (taken fates firsts seconds))
-    octets_same fails before =
-        ap (λ l. before ++ l) (sym (ap octets_of (now ∙ ap (λ b. cond b (fated fate frame ∷ standing (taken later firsts' seconds')) (standing (taken later firsts' seconds'))) fails)))
-
-  pub octets_none : FindsNone fate firsts seconds → (before : List ℕ) → before ≡ before ++ octets_of (standing (taken fates firsts seconds))
-  octets_none none before =
-      sym (append-nil before) ∙ ap (λ l. before ++ octets_of (standing l)) (sym (ap (λ f. taken f firsts seconds) is ∙ none.taken later))
 
 -- ---- one step of a loop over the channels
 

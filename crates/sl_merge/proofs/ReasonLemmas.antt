@@ -28,14 +28,6 @@ same_size a b c d e e' = ap₂ sized e e'
 none_more : (s : Stretch) → sized (0 + s.left_out) (0 + s.others) ≡ s
 none_more s = same_size (0 + s.left_out) (0 + s.others) s.left_out s.others (omega arith) (omega arith)
 
-pub judge_first : (later : List Stretch) → judge false 0 0 later ≡ are_fair later
-judge_first [] = refl
-judge_first (s ∷ later) = ap (λ t. are_fair (t ∷ later)) (none_more s)
-
-pub judge_last : (begun : Bool) (out others : ℕ) → judge begun out others (empty_stretch ∷ []) ≡ (out == 0)
-judge_last true out others = ap (λ n. n == 0) (let e : out + 0 ≡ out = omega arith in e)
-judge_last false out others = grind (arith)
-
 -- ---- one frame
 
 module _ (begun : Bool) (out others : ℕ) where
@@ -50,13 +42,6 @@ both_admitted true out others s later holds =
 both_admitted false out others s later holds =
     ap (λ r. r && are_fair_later (s ∷ later)) (ap (λ n. n == 0) (let e : out + 0 ≡ out = omega arith in e) ∙ holds)
     ∙ sym (ap (λ u. are_fair_later (u ∷ later)) (none_more s))
-
-both_refused : (begun : Bool) (out others : ℕ) (s : Stretch) (later : List Stretch) → admits (t begun out others) Both ≡ false
-    → judge begun out others (empty_stretch ∷ s ∷ later) ≡ false
-both_refused true out others s later fails =
-    ap (λ r. r && are_fair_later (s ∷ later)) (ap₂ nat_le (let e : out + 0 ≡ out = omega arith in e) (let e : others + 0 ≡ others = omega arith in e) ∙ fails)
-both_refused false out others s later fails =
-    ap (λ r. r && are_fair_later (s ∷ later)) (ap (λ n. n == 0) (let e : out + 0 ≡ out = omega arith in e) ∙ fails)
 
 judge_sized : (begun : Bool) (a b c d : ℕ) (later : List Stretch) → sized a b ≡ sized c d
     → cond begun (are_fair_later (sized a b ∷ later)) (are_fair (sized a b ∷ later)) ≡ cond begun (are_fair_later (sized c d ∷ later)) (are_fair (sized c d ∷ later))
@@ -89,14 +74,6 @@ judge_more FirstLeftOut begun out others s later holds =
     moved begun out others (out + 1) others (with_fate FirstLeftOut s) s later (omega arith) refl
 judge_more Second begun out others s later holds =
     moved begun out others out (others + 1) (with_fate Second s) s later refl (omega arith)
-
-judge_not : (fate : Fate) (begun : Bool) (out others : ℕ) (s : Stretch) (later : List Stretch) → admits (t begun out others) fate ≡ false
-    → judge begun out others (cut_at fate (s ∷ later)) ≡ false
-judge_not Both begun out others s later fails = both_refused begun out others s later fails
-judge_not First begun out others s later fails = absurd (cc)
-judge_not SecondLeftOut begun out others s later fails = absurd (cc)
-judge_not FirstLeftOut begun out others s later fails = absurd (cc)
-judge_not Second begun out others s later fails = absurd (cc)
 
 -- ---- the numbers rise by at most one a frame
 
@@ -135,13 +112,6 @@ filled (item ∷ later) = filled_more item.fate (stretches later) (filled later)
 -- ---- one step of a loop over the frames
 
 module _ (b : Bool) (items rest : List Fated) (item : Fated) (is : items ≡ item ∷ rest) (before : List ℕ) (tally : Tally) where
-  pub repeat_passed : (before' : List ℕ) → before' ≡ before_after before (turn_if b item) → is_repeat before (turn_if b item) ≡ true
-      → judge_by tally (stretches (without_repeats before' (from_side b rest))) ≡ judge_by tally (stretches (without_repeats before (from_side b items)))
-  repeat_passed before' e holds =
-      ap (λ p. judge_by tally (stretches (without_repeats p (from_side b rest)))) e
-      ∙ sym (ap (λ l. judge_by tally (stretches (without_repeats before (from_side b l)))) is
-      ∙ ap (λ r. judge_by tally (stretches (unless r (turn_if b item) (without_repeats (before_after before (turn_if b item)) (from_side b rest))))) holds)
-
   abbrev shown : judge_by tally (stretches (without_repeats before (from_side b items)))
       ≡ judge_by tally (stretches (unless (is_repeat before (turn_if b item)) (turn_if b item) (without_repeats (before_after before (turn_if b item)) (from_side b rest))))
   shown = ap (λ l. judge_by tally (stretches (without_repeats before (from_side b l)))) is
@@ -159,14 +129,3 @@ module _ (b : Bool) (items rest : List Fated) (item : Fated) (is : items ≡ ite
       ∙ ap (λ r. judge_by tally (stretches (unless r x later))) fails
       ∙ ap (λ l. judge_by tally (cut_at x.fate l)) f.is
       ∙ judge_more x.fate tally.is_begun tally.left_out tally.others f.first f.rest holds)
-
-  pub judged_not : is_repeat before (turn_if b item) ≡ false → admits tally (turn_if b item).fate ≡ false
-      → judge_by tally (stretches (without_repeats before (from_side b items))) ≡ false
-  judged_not fails refused =
-      let x = turn_if b item in
-      let later = without_repeats (before_after before x) (from_side b rest) in
-      let f = filled later in
-      shown
-      ∙ ap (λ r. judge_by tally (stretches (unless r x later))) fails
-      ∙ ap (λ l. judge_by tally (cut_at x.fate l)) f.is
-      ∙ judge_not x.fate tally.is_begun tally.left_out tally.others f.first f.rest refused

@@ -1,13 +1,14 @@
 -- What a recording delivers, frames that are left out and all.
 use Rattle.std.proofs.Common.{◌≡◌, ◌<◌, ℕ, Bool, true, false, cond, List, [], ◌∷◌, length, None, inl, inr, refl, sym, ◌∙◌, ap, ap₂, subst, arith}
 use Rattle.std.specs.Prelude.{◌&&◌, not, bytes_eq}
-use Rattle.std.specs.List.{filter, list_all}
+use Rattle.std.specs.List.{count_by, filter, list_all}
 use Rattle.std.proofs.lemmas.Bool.{and_parts, cases_Bool}
 use Rattle.std.proofs.lemmas.Slice.Eq.{bytes_eq-Decides}
 use Rattle.sl_packet.specs.Packet.{is_idle_packet}
+use Rattle.sl_packet.specs.Packets.{without_idle}
 use Rattle.sl_packet.specs.Sublist.{IsSublist}
 use Rattle.sl_tmframe.specs.TmDelimited.{tm_frames_of}
-use Rattle.sl_tmframe.specs.TmFrame.{TmFormat}
+use Rattle.sl_tmframe.specs.TmFrame.{TmFormat, view_of}
 use Rattle.sl_tmframe.proofs.DelimitedLemmas.{is_delimited}
 use Rattle.sl_tmflow.specs.Among.{IsAmong}
 use Rattle.sl_tmflow.specs.Delivery.{deliveries_of, packets_delivered}
@@ -17,10 +18,10 @@ use Rattle.sl_tmflow.specs.VirtualChannel.{views_of, views_on}
 use Rattle.sl_tmflow.proofs.lemmas.Loss.Kept.{recorded_on}
 use Rattle.sl_merge.specs.declared.fate.Fate.{Fate}
 use Rattle.sl_merge.specs.declared.fate.Fate.TheVariants.{Both, First, FirstLeftOut, Second, SecondLeftOut}
-use Rattle.sl_merge.specs.Fates.{Fated, exchanged, fits, fits_both, kept_first, merged_octets, octets_of, of_first, stands, taken, taken_of}
-use Rattle.sl_merge.specs.Merge.{DeliversRecorded, are_read, is_merge, is_merge_on, left_out_of, on_channel}
-use Rattle.sl_merge.proofs.RepeatLemmas.{AreFilled, firsts_of, once_more, repeats_are}
-use Rattle.sl_merge.proofs.WithinLemmas.{AreLong, frames_in, is_on, long_exchanged, long_filter, packets_stay, recorded_as, seen_as, taken_long, viewed}
+use Rattle.sl_merge.specs.Fates.{Fated, exchanged, fated, fits, fits_both, kept_first, merged_octets, octets_of, of_first, stands, taken, taken_of}
+use Rattle.sl_merge.specs.Merge.{DeliversRecorded, are_read, is_left_out, is_merge, is_merge_on, left_out_of, on_channel}
+use Rattle.sl_merge.proofs.RepeatLemmas.{AreFilled, firsts_of, none_before, once_more, repeats_are}
+use Rattle.sl_merge.proofs.WithinLemmas.{AreLong, frames_in, is_on, long_exchanged, long_filter, packets_stay, recorded_as, seen_as, taken_long, those_on, viewed}
 
 -- ---- the frames of a recording are those that the fates take of it
 
@@ -115,6 +116,64 @@ recorded_kept format spacecraft vc recording items positive long below frames no
     subst (IsAmong packet) (sym (recorded_on format spacecraft vc (octets_of (kept_first items)) below))
     (filter_among test packet kept (subst (λ l. IsAmong packet (packets_delivered (deliveries_of l))) (sym kept_shown) thin) parts.1)
 
+-- ---- where nothing is left out on the channel
+
+module _ (format : TmFormat) (on : List ℕ → Bool) where
+  abbrev AllStand : List Fated → Type 0
+  AllStand rest = count_by is_left_out (those_on format on rest) ≡ 0 → seen_as format on (firsts_of rest) ≡ seen_as format on (kept_first rest)
+
+  all_of_fate : (fate : Fate) (frame : List ℕ) (rest : List Fated) → AllStand rest → AllStand (fated fate frame ∷ rest)
+  all_of_fate Both frame rest ih none = kept (on frame) none
+    where
+      kept : (b : Bool) → count_by is_left_out (cond b (fated Both frame ∷ those_on format on rest) (those_on format on rest)) ≡ 0
+          → cond b (view_of format frame ∷ seen_as format on (firsts_of rest)) (seen_as format on (firsts_of rest))
+          ≡ cond b (view_of format frame ∷ seen_as format on (kept_first rest)) (seen_as format on (kept_first rest))
+      kept true none = ap (λ l. view_of format frame ∷ l) (ih (none_before format on (fated Both frame) (those_on format on rest) none).1)
+      kept false none = ih none
+  all_of_fate First frame rest ih none = kept (on frame) none
+    where
+      kept : (b : Bool) → count_by is_left_out (cond b (fated First frame ∷ those_on format on rest) (those_on format on rest)) ≡ 0
+          → cond b (view_of format frame ∷ seen_as format on (firsts_of rest)) (seen_as format on (firsts_of rest))
+          ≡ cond b (view_of format frame ∷ seen_as format on (kept_first rest)) (seen_as format on (kept_first rest))
+      kept true none = ap (λ l. view_of format frame ∷ l) (ih (none_before format on (fated First frame) (those_on format on rest) none).1)
+      kept false none = ih none
+  all_of_fate Second frame rest ih none = other (on frame) none
+    where
+      other : (b : Bool) → count_by is_left_out (cond b (fated Second frame ∷ those_on format on rest) (those_on format on rest)) ≡ 0
+          → seen_as format on (firsts_of rest) ≡ seen_as format on (kept_first rest)
+      other true none = ih (none_before format on (fated Second frame) (those_on format on rest) none).1
+      other false none = ih none
+  all_of_fate SecondLeftOut frame rest ih none = other (on frame) none
+    where
+      other : (b : Bool) → count_by is_left_out (cond b (fated SecondLeftOut frame ∷ those_on format on rest) (those_on format on rest)) ≡ 0
+          → seen_as format on (firsts_of rest) ≡ seen_as format on (kept_first rest)
+      other true none = ih (none_before format on (fated SecondLeftOut frame) (those_on format on rest) none).1
+      other false none = ih none
+  all_of_fate FirstLeftOut frame rest ih none = out (on frame) none
+    where
+      out : (b : Bool) → count_by is_left_out (cond b (fated FirstLeftOut frame ∷ those_on format on rest) (those_on format on rest)) ≡ 0
+          → cond b (view_of format frame ∷ seen_as format on (firsts_of rest)) (seen_as format on (firsts_of rest)) ≡ seen_as format on (kept_first rest)
+      out true none =
+          absurd (let e : (true ≡ false) = (none_before format on (fated FirstLeftOut frame) (those_on format on rest) none).0 in cc)
+      out false none = ih none
+
+  all_stand : (items : List Fated) → AllStand items
+  all_stand [] none = refl
+  all_stand (item ∷ rest) none = all_of_fate item.fate item.frame rest (all_stand rest) none
+
+-- a recording of which nothing is left out on a channel delivers there what stands of it
+recorded_whole : (format : TmFormat) (spacecraft vc : ℕ) (recording : List ℕ) (items : List Fated) → 0 < format.len → AreLong format.len items → vc < 8
+    → frames_in (firsts_of items) ≡ tm_frames_of format.len recording → count_by is_left_out (on_channel format spacecraft vc items) ≡ 0
+    → recorded_packets format spacecraft vc recording ≡ recorded_packets format spacecraft vc (octets_of (kept_first items))
+recorded_whole format spacecraft vc recording items positive long below frames none =
+    let on = is_on format spacecraft vc in
+    let shown : recorded_channel format spacecraft vc recording ≡ recorded_channel format spacecraft vc (octets_of (kept_first items)) =
+    ap (λ l. views_on vc (views_of format spacecraft l)) (sym frames) ∙ viewed format spacecraft vc (firsts_of items) ∙ all_stand format on items none
+    ∙ sym (recorded_as format spacecraft vc (kept_first items) positive (long_filter format.len (λ item. stands item.fate && of_first item.fate) items long)) in
+    recorded_on format spacecraft vc recording below
+    ∙ ap (λ l. without_idle (packets_delivered (deliveries_of l))) shown
+    ∙ sym (recorded_on format spacecraft vc (octets_of (kept_first items)) below)
+
 pub recorded_stay : (format : TmFormat) (spacecraft : ℕ) (one other : List ℕ) (fates : List Fate) → 0 < format.len
     → is_merge format spacecraft one other fates ≡ true → (vc : ℕ) → vc < 8 → DeliversRecorded format spacecraft vc one other fates
 recorded_stay format spacecraft one other fates positive merges vc below =
@@ -129,11 +188,18 @@ recorded_stay format spacecraft one other fates positive merges vc below =
           within_among packet (recorded_packets format spacecraft vc (octets_of (kept_first items)))
           (recorded_packets format spacecraft vc (merged_octets format.len one other fates)) stay.first
           (recorded_kept format spacecraft vc one items positive long below (firsts_are fates firsts seconds fit) none packet among);
+      all_of_first = λ none.
+          subst (λ l. IsSublist l (recorded_packets format spacecraft vc (merged_octets format.len one other fates)))
+          (sym (recorded_whole format spacecraft vc one items positive long below (firsts_are fates firsts seconds fit) none)) stay.first;
       second = λ none packet among.
           within_among packet (recorded_packets format spacecraft vc (octets_of (kept_first (exchanged items))))
           (recorded_packets format spacecraft vc (merged_octets format.len one other fates)) stay.second
           (recorded_kept format spacecraft vc other (exchanged items) positive (long_exchanged format.len items long) below (seconds_are fates firsts seconds fit)
           none packet among);
+      all_of_second = λ none.
+          subst (λ l. IsSublist l (recorded_packets format spacecraft vc (merged_octets format.len one other fates)))
+          (sym (recorded_whole format spacecraft vc other (exchanged items) positive (long_exchanged format.len items long) below
+          (seconds_are fates firsts seconds fit) none)) stay.second;
     }
   where
     fit_of : is_merge format spacecraft one other fates ≡ true → fits_both format.len one other fates ≡ true

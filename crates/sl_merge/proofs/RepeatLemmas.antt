@@ -171,7 +171,7 @@ module _ (format : TmFormat) (on : List ℕ → Bool) where
       (before : List ℕ) (last : Option TmView) → IsLink before last → count_by is_left_out (without_repeats before (those_on format on rest)) ≡ 0
       → AreOnceMore last (seen_as format on (firsts_of rest)) (seen_as format on (kept_first rest))
 
-  none_before : (p : Fated) (later : List Fated) → count_by is_left_out (p ∷ later) ≡ 0 → (is_left_out p ≡ false) × (count_by is_left_out later ≡ 0)
+  pub none_before : (p : Fated) (later : List Fated) → count_by is_left_out (p ∷ later) ≡ 0 → (is_left_out p ≡ false) × (count_by is_left_out later ≡ 0)
   none_before p later none = elim (cases_Bool (is_left_out p)) [
     | inl holds ↦ absurd (let e : 1 + count_by is_left_out later ≡ 0 = sym (count-cons is_left_out p later ∙ ap (λ b. bit b + count_by is_left_out later) holds) ∙ none in omega (arith, e))
     | inr fails ↦ (fails, (let e : 0 + count_by is_left_out later ≡ 0 = sym (count-cons is_left_out p later ∙ ap (λ b. bit b + count_by is_left_out later) fails) ∙ none in omega (arith, e)))

@@ -204,13 +204,21 @@ pub record LosesNoPacket (format : TmFormat) (spacecraft vc : ℕ) (one other : 
       (recorded_packets format spacecraft vc (merged_octets format.len one other fates))
 
 -- Where no frame of a recording is left out on a virtual channel but repeats, the merged recording delivers there each
--- packet that the recording delivers, idle packets left out.
+-- packet that the recording delivers, and where none is left out, all of them, in their order. Idle packets are left out.
 pub record DeliversRecorded (format : TmFormat) (spacecraft vc : ℕ) (one other : List ℕ) (fates : List Fate) : Type 0 where
   pub first :
       left_out_of (on_channel format spacecraft vc (taken_of format.len one other fates)) ≡ 0
       → (packet : List ℕ) → IsAmong packet (recorded_packets format spacecraft vc one)
       → IsAmong packet (recorded_packets format spacecraft vc (merged_octets format.len one other fates))
+  pub all_of_first :
+      count_by is_left_out (on_channel format spacecraft vc (taken_of format.len one other fates)) ≡ 0
+      → IsSublist (recorded_packets format spacecraft vc one)
+      (recorded_packets format spacecraft vc (merged_octets format.len one other fates))
   pub second :
       left_out_of (on_channel format spacecraft vc (exchanged (taken_of format.len one other fates))) ≡ 0
       → (packet : List ℕ) → IsAmong packet (recorded_packets format spacecraft vc other)
       → IsAmong packet (recorded_packets format spacecraft vc (merged_octets format.len one other fates))
+  pub all_of_second :
+      count_by is_left_out (on_channel format spacecraft vc (exchanged (taken_of format.len one other fates))) ≡ 0
+      → IsSublist (recorded_packets format spacecraft vc other)
+      (recorded_packets format spacecraft vc (merged_octets format.len one other fates))

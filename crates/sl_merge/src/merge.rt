@@ -41,7 +41,23 @@ pub fn merged_recording(
     Ok(merged)
 }
 
-/// Reports whether fates tell a merge of two recordings of TM transfer frames. The only refusal is
+/// Reports whether fates tell a merge of two recordings of TM transfer frames (CCSDS 132.0-B) of
+/// this format, read for this spacecraft, 0 to 1023. What a merge is, is this project's own choice:
+///
+/// - The fates take all frames of both recordings and no others. What follows the last whole frame
+///   of a recording belongs to no merge. Frames of both have the same octets.
+/// - Each frame that stands is one that is read.
+/// - On each virtual channel no run of a recording is broken: where the count of a frame that
+///   stands follows that of the recording's frame before it, no frame of the other recording alone
+///   stands between the two. So an outage of exactly 256 frames, or a multiple, during which the
+///   other recording has frames is refused: the counts tell it from none only by these frames.
+/// - A frame that is left out is skipped, or it is the frame before it of its recording and channel
+///   once more, octet for octet. Else it lies between two frames of both, and of this stretch no
+///   more frames of the recording are left out than frames of the other one alone stand there.
+/// - No octets stand on a channel both as a frame of the first recording alone and as one of the
+///   second alone, but where their payload comes twice in a recording, as that of idle frames.
+///
+/// So one recording behind the other is no merge, nor is one of them alone. The only refusal is
 /// want of memory.
 pub fn is_merge_tm<S: BuildHasher + Copy>(
     alloc: Global,
@@ -58,7 +74,8 @@ pub fn is_merge_tm<S: BuildHasher + Copy>(
     // A merge delivers all packets that each recording delivers without what is left out.
     ensures packets { IfOk result (λ is. IsTrue is → (vc : ℕ) → vc < 8
         → LosesNoPacket shape.now spacecraft vc one.now other.now fates.now) }
-    // Where nothing is left out on a channel but repeats, it delivers each packet of the recording.
+    // Where nothing of a recording is left out on a channel but repeats, the merge delivers each
+    // packet of the recording there; where nothing is, all of them in order.
     ensures recorded { IfOk result (λ is. IsTrue is → (vc : ℕ) → vc < 8
         → DeliversRecorded shape.now spacecraft vc one.now other.now fates.now) }
 {

@@ -18,4 +18,4 @@ mod twice;
 pub use counts::{FateCounts, LeftOut, count_fates};
 pub use fate::Fate;
 pub use merge::{is_merge_tm, merged_recording};
-pub use order::{Order, Unordered};
+pub use order::{Order, Unordered, find_order};

@@ -1,17 +1,52 @@
 //! The order of the frames of two recordings.
+mod anchors;
+mod channel;
+mod choice;
+mod copies;
+mod lanes;
+mod marks;
+mod numbers;
+mod payloads;
+mod positions;
+mod recording;
+mod seen;
+mod stretch;
+mod taken;
+mod ways;
+mod weave;
+
 use crate::fate::Fate;
-use std::vec::Vec;
+use anchors::set_anchors;
+use choice::Care;
+use copies::count_copies;
+use lanes::{Choices, Frames, order_lanes};
+use numbers::Both;
+use positions::set_positions;
+use recording::Recording;
+use seen::seen_frames;
+use sl_tmframe::TmShape;
+use std::alloc::{AllocError, Global};
+use std::hash::BuildHasher;
 use thiserror::Error;
+use weave::weave;
+
+/// The most octets that both recordings may have: fewer than 2^31 frames of 32 octets.
+const MOST_OCTETS: usize = 1 << 36;
 
 /// The order that was found, and what of it is a guess.
 #[derive(Debug, Drop)]
 pub struct Order {
     /// The fates of the frames of both recordings.
     pub fates: Vec<Fate>,
-    /// The stretches whose order the counts leave open. All frames of them stand in the merge.
+    /// The stretches whose order the counts leave open, and, without error control field, the frames
+    /// near which a nearly equal one of the other recording stands. All frames of them stand in the
+    /// merge.
     pub open: u64,
     /// The stretches of which one recording's frames are left out.
     pub undecided: u64,
+    /// The stretches in which one recording lost 256 frames of a channel in a row or more, or both
+    /// did, and one way fits the frames, or one is clearly the likeliest.
+    pub outages: u64,
     /// The choices among equal idle frames.
     pub idle: u64,
 }
@@ -31,4 +66,55 @@ pub enum Unordered {
     /// The channels contradict each other.
     #[error("channels contradict each other")]
     Disorder,
+}
+
+impl From<AllocError> for Unordered {
+    fn from(_: AllocError) -> Unordered {
+        Unordered::Memory
+    }
+}
+
+/// Finds how the frames of two recordings of one pass stand to each other: the fates of a merge.
+/// No clause says that they are right, so ask [`is_merge_tm`](crate::is_merge_tm).
+///
+/// Frames with equal octets whose payload comes once in either recording are the same. Between them
+/// the virtual channel frame counts number the frames of a channel. Where these don't tell an order,
+/// since a recording lost 256 frames in a row or more, the likeliest one is taken and counted.
+/// Recordings of 2^36 octets or more are refused as if memory were.
+pub fn find_order<S: BuildHasher + Copy>(
+    alloc: Global,
+    hasher: S,
+    shape: &TmShape,
+    spacecraft: u16,
+    one: &[u8],
+    other: &[u8],
+) -> Result<Order, Unordered> {
+    if one.len().saturating_add(other.len()) >= MOST_OCTETS {
+        return Err(Unordered::Memory);
+    }
+    let both = Both {
+        one: Recording::new(shape, one),
+        other: Recording::new(shape, other),
+    };
+    let mut frames = Frames {
+        firsts: seen_frames(alloc, shape, spacecraft, &both.one)?,
+        seconds: seen_frames(alloc, shape, spacecraft, &both.other)?,
+    };
+    set_anchors(alloc, hasher, &both, &mut frames)?;
+    set_positions(alloc, &mut frames)?;
+    for care in [Care::Likeliest, Care::ByPosition, Care::LeaveOut] {
+        let mut choices = Choices::none();
+        let lanes = order_lanes(alloc, &both, &mut frames, care, &mut choices)?;
+        if let Some(fates) = weave(alloc, &frames, &lanes)? {
+            let copies = count_copies(&both, fates.as_slice());
+            return Ok(Order {
+                fates,
+                open: choices.orders.saturating_add(copies),
+                undecided: choices.frames,
+                outages: choices.outages,
+                idle: choices.idle,
+            });
+        }
+    }
+    Err(Unordered::Disorder)
 }

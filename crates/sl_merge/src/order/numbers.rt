@@ -1,0 +1,156 @@
+//! The order of frames by their numbers.
+use crate::fate::Fate;
+use crate::order::marks::{Mark, Numbered};
+use crate::order::recording::{Recording, are_near};
+use crate::order::stretch::Stretch;
+use crate::order::taken::{Left, takes_first, takes_second};
+use std::alloc::AllocError;
+
+/// Two recordings, of which frames are merged.
+#[derive(Clone, Copy)]
+pub(crate) struct Both<'a> {
+    pub one: Recording<'a>,
+    pub other: Recording<'a>,
+}
+
+impl<'a> Both<'a> {
+    /// Whether two frames have the same octets.
+    pub fn are_same(&self, first: u32, second: u32) -> bool {
+        self.one.frame(first) == self.other.frame(second)
+    }
+
+    /// Whether two frames may be copies of one frame, which were damaged: without error control
+    /// field, nearly equal octets.
+    pub fn are_copies(&self, first: u32, second: u32) -> bool {
+        !self.one.fecf() && are_near(self.one.frame(first), self.other.frame(second))
+    }
+}
+
+/// Puts the frames of two recordings on one channel in the order of their numbers, into `fates`.
+/// Answers whether the frames allow it: equal numbers have equal octets, and the brackets rise.
+pub(crate) fn order_by_number(
+    both: &Both<'_>,
+    mut firsts: Numbered<'_>,
+    mut seconds: Numbered<'_>,
+    fates: &mut Vec<Fate>,
+) -> Result<bool, AllocError> {
+    fates.clear();
+    let mut bracket = 0u32;
+    for _ in 0..u64::MAX {
+        let first = firsts.next_frame();
+        let second = seconds.next_frame();
+        if first.is_none() && second.is_none() {
+            return Ok(true);
+        }
+        let Some((fate, reached)) = next_fate(both, first, second) else {
+            return Ok(false);
+        };
+        if reached < bracket {
+            return Ok(false);
+        }
+        bracket = reached;
+        fates.push(fate)?;
+        if takes_first(fate) {
+            firsts.pass();
+        }
+        if takes_second(fate) {
+            seconds.pass();
+        }
+    }
+    Ok(false)
+}
+
+// The fate of the frame with the least number, or of both, and its bracket. None where two frames
+// of one number aren't the same.
+fn next_fate(
+    both: &Both<'_>,
+    first: Option<(Mark, i64)>,
+    second: Option<(Mark, i64)>,
+) -> Option<(Fate, u32)> {
+    match (first, second) {
+        (None, None) => None,
+        (Some((mark, _)), None) => Some((Fate::First, mark.bracket)),
+        (None, Some((mark, _))) => Some((Fate::Second, mark.bracket)),
+        (Some((one, first)), Some((other, second))) => {
+            if first < second {
+                Some((Fate::First, one.bracket))
+            } else if second < first {
+                Some((Fate::Second, other.bracket))
+            } else {
+                fate_of_same(both, &one, &other)
+            }
+        }
+    }
+}
+
+// The fate of two frames of one number.
+fn fate_of_same(both: &Both<'_>, one: &Mark, other: &Mark) -> Option<(Fate, u32)> {
+    if one.bracket != other.bracket {
+        return None;
+    }
+    if both.are_same(one.place, other.place) {
+        return Some((Fate::Both, one.bracket));
+    }
+    if both.are_copies(one.place, other.place) {
+        return Some((Fate::SecondLeftOut, other.bracket));
+    }
+    None
+}
+
+/// Puts the frames of a stretch in the order of their positions, into `fates`.
+pub(crate) fn order_by_position(
+    both: &Both<'_>,
+    stretch: &Stretch<'_>,
+    fates: &mut Vec<Fate>,
+) -> Result<(), AllocError> {
+    fates.clear();
+    let mut left = Left::of(stretch);
+    for _ in 0..u64::MAX {
+        let fate = match (left.firsts.first(), left.seconds.first()) {
+            (None, None) => break,
+            (Some(_), None) => Fate::First,
+            (None, Some(_)) => Fate::Second,
+            (Some(one), Some(other)) => fate_by_position(both, one, other),
+        };
+        fates.push(fate)?;
+        left.take(fate);
+    }
+    Ok(())
+}
+
+/// Puts the frames of a stretch in the order of their brackets, into `fates`: of one bracket those
+/// of one recording, which `earlier` names, before the other's.
+pub(crate) fn order_by_bracket(
+    stretch: &Stretch<'_>,
+    earlier: Fate,
+    fates: &mut Vec<Fate>,
+) -> Result<(), AllocError> {
+    fates.clear();
+    let mut left = Left::of(stretch);
+    for _ in 0..u64::MAX {
+        let fate = match (left.firsts.first(), left.seconds.first()) {
+            (None, None) => break,
+            (Some(_), None) => Fate::First,
+            (None, Some(_)) => Fate::Second,
+            (Some(one), Some(other)) if one.bracket < other.bracket => Fate::First,
+            (Some(one), Some(other)) if other.bracket < one.bracket => Fate::Second,
+            (Some(_), Some(_)) => earlier,
+        };
+        fates.push(fate)?;
+        left.take(fate);
+    }
+    Ok(())
+}
+
+// The fate of the sooner one of two frames, by their positions, or of both.
+fn fate_by_position(both: &Both<'_>, one: &Mark, other: &Mark) -> Fate {
+    let first = (one.bracket, one.position);
+    let second = (other.bracket, other.position);
+    if second < first {
+        Fate::Second
+    } else if first == second && both.are_same(one.place, other.place) {
+        Fate::Both
+    } else {
+        Fate::First
+    }
+}

@@ -3,6 +3,7 @@ use crate::order::Unordered;
 use crate::order::lanes::Frames;
 use crate::order::numbers::Both;
 use crate::order::payloads::{Kept, Payloads};
+use crate::order::recording::Payload;
 use crate::order::seen::{Role, Seen};
 use std::alloc::{AllocError, Global};
 use std::hash::BuildHasher;
@@ -46,15 +47,35 @@ fn twins<S: BuildHasher + Copy>(
     let mut payloads = Payloads::new(alloc, hasher, both.one, frames.firsts.len())?;
     keep_payloads(&mut payloads, &frames.firsts, &mut twins);
     let mut place = 0u32;
+    let mut expected = 0u32;
     for seen in &frames.seconds {
         if seen.stands() {
-            if let Some(first) = payloads.place_of(&both.other.payload(place)) {
+            let payload = both.other.payload(place);
+            if let Some(first) = find(&payloads, &frames.firsts, expected, &payload) {
                 meet(&mut twins, first, place);
+                expected = first.saturating_add(1);
             }
         }
         place = place.saturating_add(1);
     }
     Ok(twins)
+}
+
+// The place of a frame of the first recording that has this payload: mostly the expected one.
+fn find<S: BuildHasher + Copy>(
+    payloads: &Payloads<'_, S>,
+    firsts: &[Seen],
+    expected: u32,
+    payload: &Payload<'_>,
+) -> Option<u32> {
+    let stands = firsts
+        .get(expected as usize)
+        .is_some_and(|seen| seen.stands());
+    if stands && payloads.has(expected, payload) {
+        Some(expected)
+    } else {
+        payloads.place_of(payload)
+    }
 }
 
 // Keeps the payloads of a recording.
@@ -68,7 +89,10 @@ fn keep_payloads<S: BuildHasher + Copy>(
         if seen.stands() {
             match payloads.keep(place) {
                 Kept::New => {}
-                Kept::Known(before) => set_many(twins, before),
+                Kept::Known(before) => {
+                    set_many(twins, before);
+                    set_many(twins, place);
+                }
                 Kept::Crowded => set_many(twins, place),
             }
         }

@@ -1,7 +1,6 @@
 //! Frames without error control field of which one is a damaged copy of the other.
 use crate::fate::Fate;
 use crate::order::numbers::Both;
-use crate::order::taken::{takes_first, takes_second};
 
 /// Among how many of the frames that only the other recording has a copy is looked for.
 const RECENT: usize = 8;
@@ -61,10 +60,10 @@ pub(crate) fn count_copies(both: &Both<'_>, fates: &[Fate]) -> u64 {
             copies = copies.saturating_add(u64::from(found));
             seconds.add(second);
         }
-        if takes_first(*fate) {
+        if fate.is_of_first() {
             first = first.saturating_add(1);
         }
-        if takes_second(*fate) {
+        if fate.turned().is_of_first() {
             second = second.saturating_add(1);
         }
     }

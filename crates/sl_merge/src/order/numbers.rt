@@ -3,7 +3,7 @@ use crate::fate::Fate;
 use crate::order::marks::{Mark, Numbered};
 use crate::order::recording::{Recording, are_near};
 use crate::order::stretch::Stretch;
-use crate::order::taken::{Left, takes_first, takes_second};
+use crate::order::taken::Left;
 use std::alloc::AllocError;
 
 /// Two recordings, of which frames are merged.
@@ -50,10 +50,10 @@ pub(crate) fn order_by_number(
         }
         bracket = reached;
         fates.push(fate)?;
-        if takes_first(fate) {
+        if fate.is_of_first() {
             firsts.pass();
         }
-        if takes_second(fate) {
+        if fate.turned().is_of_first() {
             seconds.pass();
         }
     }

@@ -101,8 +101,8 @@ impl<'a, S: BuildHasher + Copy> Payloads<'a, S> {
         None
     }
 
-    // Whether the frame at a place has this payload.
-    fn has(&self, place: u32, payload: &Payload<'_>) -> bool {
+    /// Whether the frame at a place has this payload.
+    pub fn has(&self, place: u32, payload: &Payload<'_>) -> bool {
         let own = self.recording.payload(place);
         own.vc == payload.vc && own.octets == payload.octets
     }

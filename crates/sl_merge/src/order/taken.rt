@@ -34,13 +34,13 @@ impl<'a> Left<'a> {
             first: None,
             second: None,
         };
-        if takes_first(fate) {
+        if fate.is_of_first() {
             if let Some((mark, later)) = self.firsts.split_first() {
                 taken.first = Some(*mark);
                 self.firsts = later;
             }
         }
-        if takes_second(fate) {
+        if fate.turned().is_of_first() {
             if let Some((mark, later)) = self.seconds.split_first() {
                 taken.second = Some(*mark);
                 self.seconds = later;
@@ -48,16 +48,6 @@ impl<'a> Left<'a> {
         }
         taken
     }
-}
-
-/// Whether a fate takes a frame of the first recording.
-pub(crate) fn takes_first(fate: Fate) -> bool {
-    matches!(fate, Fate::Both | Fate::First | Fate::FirstLeftOut)
-}
-
-/// Whether a fate takes a frame of the second recording.
-pub(crate) fn takes_second(fate: Fate) -> bool {
-    matches!(fate, Fate::Both | Fate::Second | Fate::SecondLeftOut)
 }
 
 /// The count of the last frame of an order that stands.

@@ -2,7 +2,6 @@
 use crate::fate::Fate;
 use crate::order::lanes::Frames;
 use crate::order::seen::Seen;
-use crate::order::taken::{takes_first, takes_second};
 use std::alloc::{AllocError, Global};
 
 /// What isn't in order yet: the frames of both recordings, and the fates of the channels.
@@ -91,14 +90,14 @@ impl<'a> Loom<'a> {
 
     // Goes on behind the frames that a fate takes.
     fn pass(&mut self, fate: Fate) {
-        let stands = matches!(fate, Fate::Both | Fate::First | Fate::Second);
-        if takes_first(fate) {
+        let stands = fate.stands();
+        if fate.is_of_first() {
             if let Some((seen, later)) = self.firsts.split_first() {
                 self.firsts = later;
                 self.reach(seen, stands);
             }
         }
-        if takes_second(fate) {
+        if fate.turned().is_of_first() {
             if let Some((seen, later)) = self.seconds.split_first() {
                 self.seconds = later;
                 self.reach(seen, stands && fate != Fate::Both);

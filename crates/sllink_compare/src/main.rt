@@ -6,15 +6,14 @@ ghost use Rattle.std.specs.IoError.{error_kind};
 
 mod asking;
 mod command_line;
-mod files;
 mod questions;
 mod run;
 mod totals;
 
 use clap::error::ErrorKind as WordsKind;
 use command_line::{Asked, Refusal, parse};
-use files::{open_file, shown};
 use run::{FAULT, REFUSED, SAME, report_fault, run};
+use sl_files::{open_file, shown};
 use sl_link::{Counted, LinkFault};
 use std::fs::File;
 use std::hash::RandomState;

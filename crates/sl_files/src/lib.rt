@@ -1,4 +1,5 @@
 //! Files that can be read, and how their names stand in a line.
+#![tactic(auto)]
 
 use std::alloc::{AllocError, Global};
 use std::fs::{File, metadata};

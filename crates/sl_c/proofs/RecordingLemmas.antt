@@ -15,8 +15,8 @@ use Rattle.sl_c.specs.Answer.{Says}
 use Rattle.sl_c.specs.declared.answer.Answer.{Answer}
 use Rattle.sl_c.specs.declared.answer.Answer.TheVariants.{Done, Memory, TooLong}
 use Rattle.sl_c.specs.declared.link.ManagedFields.{ManagedFields}
-use Rattle.sl_c.specs.Link.{parameters_of, reading_of, reading_under}
-use Rattle.sl_c.specs.Recording.{ComparesPackets, GivesText, Lent, LeavesText}
+use Rattle.sl_c.specs.Link.{parameters_from, reading_of, reading_under}
+use Rattle.sl_c.specs.Recording.{SaysWhetherSame, GivesText, Lent, LeavesText}
 
 -- the copied part, by how much of it there is
 pub front_is : (text output new : List ℕ) (fits : ℕ) → fits ≡ min (length text) (length output) → new ≡ take fits text ++ drop fits output
@@ -73,7 +73,7 @@ module _ (packets : Parameters → List ℕ → List (List (List ℕ))) (may_ref
   may_refuse p = may_refuse_memory p one ⊎ may_refuse_memory p other
 
   -- that the recordings aren't read
-  pub refused_compares : (same : Bool) (answer : ℕ) (refusal : Answer) → reading_of m (max (length one) (length other)) ≡ Err refusal → Says answer refusal → ComparesPackets packets may_refuse_memory m one other same same answer
+  pub refused_compares : (same : Bool) (answer : ℕ) (refusal : Answer) → reading_of m (max (length one) (length other)) ≡ Err refusal → Says answer refusal → SaysWhetherSame packets may_refuse_memory m one other same same answer
   refused_compares same answer refusal e says = record {
     refused = subst (λ (r : Result Parameters Answer). IfErr r (λ it. Says answer it × (same ≡ same))) (sym e) (says, refl);
     read = subst (λ (r : Result Parameters Answer). IfOk r (λ p. (Says answer Memory × (same ≡ same) × may_refuse p) ⊎ (Says answer Done × (IsTrue same ↔ (packets p one ≡ packets p other))))) (sym e) tt;
@@ -81,14 +81,14 @@ module _ (packets : Parameters → List ℕ → List (List (List ℕ))) (may_ref
 
   -- that memory was refused
   pub memory_compares : (same : Bool) (answer : ℕ) (p : Parameters) (fault : LinkFault) → reading_of m (max (length one) (length other)) ≡ Ok p → Says answer Memory
-      → StopsInMemory p.max_octets (max (length one) (length other)) (may_refuse p) fault → ComparesPackets packets may_refuse_memory m one other same same answer
+      → StopsInMemory p.max_octets (max (length one) (length other)) (may_refuse p) fault → SaysWhetherSame packets may_refuse_memory m one other same same answer
   memory_compares same answer p fault e says stops = record {
     refused = subst (λ (r : Result Parameters Answer). IfErr r (λ it. Says answer it × (same ≡ same))) (sym e) tt;
-    read = subst (λ (r : Result Parameters Answer). IfOk r (λ q. (Says answer Memory × (same ≡ same) × may_refuse q) ⊎ (Says answer Done × (IsTrue same ↔ (packets q one ≡ packets q other))))) (sym e) (inl (says, refl, at_memory (IfOk-at_ok (λ (q : Parameters). max (length one) (length other) ≤ q.max_octets) e (within_limit (max (length one) (length other)) (managed_of (parameters_of m)))) stops));
+    read = subst (λ (r : Result Parameters Answer). IfOk r (λ q. (Says answer Memory × (same ≡ same) × may_refuse q) ⊎ (Says answer Done × (IsTrue same ↔ (packets q one ≡ packets q other))))) (sym e) (inl (says, refl, at_memory (IfOk-at_ok (λ (q : Parameters). max (length one) (length other) ≤ q.max_octets) e (within_limit (max (length one) (length other)) (managed_of (parameters_from m)))) stops));
   }
 
   -- or what was found
-  pub found_compares : (same same' : Bool) (answer : ℕ) (p : Parameters) → reading_of m (max (length one) (length other)) ≡ Ok p → Says answer Done → (IsTrue same' ↔ (packets p one ≡ packets p other)) → ComparesPackets packets may_refuse_memory m one other same same' answer
+  pub found_compares : (same same' : Bool) (answer : ℕ) (p : Parameters) → reading_of m (max (length one) (length other)) ≡ Ok p → Says answer Done → (IsTrue same' ↔ (packets p one ≡ packets p other)) → SaysWhetherSame packets may_refuse_memory m one other same same' answer
   found_compares same same' answer p e says found = record {
     refused = subst (λ (r : Result Parameters Answer). IfErr r (λ it. Says answer it × (same' ≡ same))) (sym e) tt;
     read = subst (λ (r : Result Parameters Answer). IfOk r (λ q. (Says answer Memory × (same' ≡ same) × may_refuse q) ⊎ (Says answer Done × (IsTrue same' ↔ (packets q one ≡ packets q other))))) (sym e) (inr (says, found));

@@ -11,8 +11,8 @@ use Rattle.sl_c.specs.declared.link.ManagedFields.{ManagedFields}
 use Rattle.sl_c.specs.declared.link.TotalsFields.{TotalsFields}
 
 -- the parameters that C gives
-abbrev pub parameters_of : ManagedFields → Parameters
-parameters_of m =
+abbrev pub parameters_from : ManagedFields → Parameters
+parameters_from m =
     record {
       spacecraft = m.spacecraft;
       tm_length = m.tm_length;
@@ -41,7 +41,7 @@ reading_under octets (Err refused) = Err (refusal_of refused)
 -- the parameters that C gives, for recordings of `octets` octets: the first that is refused is
 -- answered, else that the recordings are over the limit
 abbrev pub reading_of : ManagedFields → ℕ → Result Parameters Answer
-reading_of m octets = reading_under octets (managed_of (parameters_of m))
+reading_of m octets = reading_under octets (managed_of (parameters_from m))
 
 -- what is counted
 abbrev pub counts_of_totals : TotalsFields → Counts

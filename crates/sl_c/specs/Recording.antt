@@ -46,7 +46,7 @@ pub record GivesText (text : Parameters → List ℕ → List ℕ) (counts : Par
 -- What a call answers and leaves: why the recordings aren't read; or that memory was refused, where
 -- one of the recordings allows it; and then all is as it was. Or true exactly where the packets of
 -- both are the same.
-pub record ComparesPackets (packets : Parameters → List ℕ → List (List (List ℕ)))
+pub record SaysWhetherSame (packets : Parameters → List ℕ → List (List (List ℕ)))
     (may_refuse_memory : Parameters → List ℕ → Type 0) (m : ManagedFields) (one other : List ℕ)
     (same same' : Bool) (answer : ℕ) : Type 0 where
   pub refused : IfErr (reading_of m (max (length one) (length other))) (λ refusal. Says answer refusal × (same' ≡ same))

@@ -4,7 +4,7 @@ ghost use Rattle.sl_link.specs.Kind.Tc.{tc_packets};
 ghost use Rattle.sl_link.specs.Kind.Tm.{tm_packets};
 ghost use Rattle.sl_link.specs.Same.{MayRefuseStoreMemoryInTc, MayRefuseStoreMemoryInTm};
 ghost use Rattle.sl_c.specs.Answer.{Says};
-ghost use Rattle.sl_c.specs.Recording.{ComparesPackets};
+ghost use Rattle.sl_c.specs.Recording.{SaysWhetherSame};
 
 use crate::answer::Answer;
 use crate::link::{ManagedFields, managed_for};
@@ -23,7 +23,7 @@ pub extern "C" fn sllink_same_packets_tm(
     other: &[u8],
     same: &mut bool,
 ) -> u32
-    ensures { ComparesPackets tm_packets MayRefuseStoreMemoryInTm managed.now one.now other.now
+    ensures { SaysWhetherSame tm_packets MayRefuseStoreMemoryInTm managed.now one.now other.now
         same.old same.new result }
 {
     let managed = match managed_for(managed, one.len().max(other.len())) {
@@ -46,7 +46,7 @@ pub extern "C" fn sllink_same_packets_tc(
     other: &[u8],
     same: &mut bool,
 ) -> u32
-    ensures { ComparesPackets tc_packets MayRefuseStoreMemoryInTc managed.now one.now other.now
+    ensures { SaysWhetherSame tc_packets MayRefuseStoreMemoryInTc managed.now one.now other.now
         same.old same.new result }
 {
     let managed = match managed_for(managed, one.len().max(other.len())) {

@@ -1,7 +1,7 @@
 -- FARM-1, the frame acceptance and reporting mechanism of CCSDS 232.1-B, on one virtual channel.
--- Its buffers are always free (mission profile), so FARM-1 never reaches the wait state.
+-- Its buffers are always free: this project's choice. So FARM-1 never reaches the wait state.
 --
--- What is this project's choice is marked as mission profile; docs/cop.md has the list of it. The
+-- What the standard leaves open is marked as this project's choice; docs/cop.md lists it. The
 -- sliding window and its two parts are the standard's.
 use Rattle.std.specs.Prelude.{◌≡◌, ◌≢◌, ◌⊎◌, ℕ, ◌+◌, ◌-◌, ◌/◌, ◌%◌, ◌<◌, ◌≤◌, ◌==◌, nat_lt, nat_le, Bool, true, false, if◌then◌else◌, List, [], ◌∷◌, ◌++◌, replicate, count_by, Contains}
 use Rattle.sl_cop.specs.declared.farm_event.FarmEvent.{FarmEvent}
@@ -18,7 +18,7 @@ pub record FarmState : Type 0 where
   pub farm_b : ℕ
 
 -- The first state: the open state with this V(R), the Retransmit flag 0 and the FARM-B counter 0.
--- Mission profile.
+-- This project's choice.
 abbrev pub farm_start : ℕ → FarmState
 farm_start vr = record { vr = vr; lockout = false; retransmit = false; farm_b = 0 }
 
@@ -98,7 +98,7 @@ IsStep w s (Ad ns) Early t =
 -- window: the frame is discarded, and nothing changes.
 IsStep w s (Ad ns) Late t = (s.lockout ≡ false) × IsArea w (distance ns s.vr) NegativePart × (t ≡ s)
 -- A frame of type AD arrives in the open state, and N(S) is in the lockout area: the frame is
--- discarded, and the Lockout flag is set. The Retransmit flag stays: mission profile.
+-- discarded, and the Lockout flag is set. The Retransmit flag stays: this project's choice.
 IsStep w s (Ad ns) Outside t =
     (s.lockout ≡ false) × IsArea w (distance ns s.vr) LockoutArea × (t ≡ record s { lockout = true })
 -- A frame of type AD arrives in the lockout state, with any N(S): the frame is discarded, and
@@ -128,7 +128,7 @@ IsStep w s Unlock Outside t = ⊥
 IsStep w s Unlock Refused t = ⊥
 -- The control command Set V(R) arrives: the FARM-B counter is incremented. In the open state the
 -- Retransmit flag is reset, and V(R) is set to the value of the command. In the lockout state
--- nothing else changes; the increment in this state is the mission profile's.
+-- nothing else changes; the increment in this state is this project's choice.
 IsStep w s (SetVr x) Command t =
     ((s.lockout ≡ false) × (t ≡ record (counted s) { vr = x; retransmit = false }))
     ⊎ ((s.lockout ≡ true) × (t ≡ counted s))

@@ -1,6 +1,6 @@
 -- The initial V(R) of FARM-1, CCSDS 232.1-B, on each of the 64 virtual channels of TC frames, as a
 -- list of numbers, and the text that names some of them. A separate value for each virtual channel,
--- and the form of the text, are this project's mission profile.
+-- and the form of the text, are this project's choice.
 use Rattle.std.specs.Prelude.{◌≡◌, ◌≢◌, ℕ, suc, ◌<◌, ◌≤◌, ◌==◌, if◌then◌else◌, List, [], ◌∷◌, ◌++◌, map, length, slice_index_or, slice_set, All}
 use Rattle.std.specs.Fmt.{decimal}
 use Rattle.std.specs.List.{join_with_byte}

@@ -1,7 +1,7 @@
 -- The units (frame data units) that FARM-1 accepts on a virtual channel, CCSDS 232.0-B and 232.1-B.
--- Units of types AD and BD make one list, in the order of their acceptance. This is the project's
--- own choice, which is called mission profile. In this file `w` is the width of the window, `vr` is
--- the initial V(R) of a virtual channel, and `vc_views` is the list of that virtual channel's frames.
+-- Units of types AD and BD make one list, in the order of their acceptance: this
+-- project's choice. In this file `w` is the width of the window, `vr` is the initial V(R) of a
+-- virtual channel, and `vc_views` is the list of that virtual channel's frames.
 use Rattle.std.specs.Prelude.{ℕ, ◌==◌, List, [], ◌∷◌, map}
 use Rattle.std.specs.Result.{result_ok}
 use Rattle.std.specs.List.{filter, filter_map}
@@ -59,7 +59,7 @@ abbrev pub accepted_of : (Content → List (List ℕ)) → ℕ → ℕ → List 
 accepted_of units w vr vc_views =
     accepted_by (λ (view : TcView). units view.content) (verdicts_of w (farm_start vr) (events_of vc_views)) vc_views
 
--- the units that FARM-1 accepts, of types AD and BD in one order (mission profile)
+-- the units that FARM-1 accepts, of types AD and BD in one order: this project's choice
 abbrev pub accepted_units : ℕ → ℕ → List TcView → List (List ℕ)
 accepted_units w vr vc_views = accepted_of unit_of w vr vc_views
 

@@ -1,6 +1,6 @@
 -- Anomalies of the segments that FARM-1 accepts, CCSDS 232.0-B: a segment is out of sequence, an
 -- incomplete series is dropped or given up, or octets are left after the last whole packet of a
--- service data unit. Two things are the project's own choices (mission profile): the greatest
+-- service data unit. Two things are this project's choices: the greatest
 -- length of a service data unit, and that the octets after its last whole packet are dropped. Each
 -- anomaly has two functions: one with `_of`, which takes the segments of a MAP and the next one; and
 -- one with `_by`, which takes the parameters, the frames before and the next one.

@@ -1,6 +1,6 @@
 -- The frames of a TC normal form, read as a recording: they come in a fixed order, and each packet
--- is carried by a series of its own. The order, and that segments are full, are the project's own
--- choice (mission profile).
+-- is carried by a series of its own. The order, and that segments are full, are this project's
+-- choice.
 use Rattle.std.specs.Prelude.{◌≡◌, ℕ, ◌+◌, ◌*◌, ◌%◌, ◌<◌, Bool, if◌then◌else◌, List, [], ◌∷◌, ◌++◌, length, map, flat_map}
 use Rattle.std.specs.List.{slice_index_or}
 use Rattle.sl_fields.specs.NeverFall.{NeverFall}

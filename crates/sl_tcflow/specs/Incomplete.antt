@@ -1,6 +1,6 @@
 -- Series of segments that are incomplete, CCSDS 232.0-B: the latest first segment of a MAP, after
 -- which continuing ones have come, or none, and no other. The greatest length of a service data
--- unit, 65,542 octets, is the project's own choice (mission profile).
+-- unit, 65,542 octets, is this project's choice.
 use Rattle.std.specs.Prelude.{◌≡◌, ℕ, ◌+◌, ◌≤◌, ◌==◌, ◌&&◌, Bool, true, false, nat_le, nat_lt, if◌then◌else◌, List, [], ◌∷◌, ◌++◌, length, Option, None, Some}
 use Rattle.std.specs.List.{AllByRecursion}
 use Rattle.sl_packet.specs.Packet.{longest_packet}
@@ -18,8 +18,8 @@ pub record IsIncomplete (list : List (List ℕ)) (octets : List ℕ) : Type 0 wh
   pub begins : flags_of first ≡ 1
   -- the later segments are continuing ones
   pub goes_on : AllByRecursion (λ segment. flags_of segment ≡ 0) later
-  -- these are the octets of the series after its segment headers, and not too many (mission
-  -- profile)
+  -- these are the octets of the series after its segment headers, and not too many: this
+  -- project's choice
   pub together : octets ≡ reassembled (first ∷ later)
   pub fits : length octets ≤ longest_packet
 

@@ -1,5 +1,5 @@
--- The packets of a MAP, CCSDS 232.0-B and 133.0-B. Two things are the project's own choices
--- (mission profile): the greatest length of a service data unit, and that the octets after its last
+-- The packets of a MAP, CCSDS 232.0-B and 133.0-B. Two things are this project's choices: the
+-- greatest length of a service data unit, and that the octets after its last
 -- whole packet are dropped.
 use Rattle.std.specs.Prelude.{◌≡◌, ℕ, ◌+◌, ◌==◌, nat_le, if◌then◌else◌, List, [], ◌∷◌, ◌++◌, length, map, flat_map}
 use Rattle.std.specs.List.{filter}
@@ -11,8 +11,8 @@ use Rattle.sl_tcflow.specs.ReceptionParameters.{ReceptionParameters, is_plain, i
 use Rattle.sl_tcflow.specs.Series.{SeriesAt, past, reassembled, segment_in, segments_on, series_of}
 
 -- The packets of the service data unit that these segments carry: the longest list of packets that
--- lie end to end at its front. A service data unit of more than 65,542 octets has no packets
--- (mission profile).
+-- lie end to end at its front. A service data unit of more than 65,542 octets has no packets:
+-- this project's choice.
 abbrev pub packets_of_series : List (List ℕ) → List (List ℕ)
 packets_of_series segments =
     if nat_le (length (reassembled segments)) longest_packet then packets_of (reassembled segments) else []

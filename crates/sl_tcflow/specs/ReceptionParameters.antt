@@ -5,8 +5,8 @@ use Rattle.sl_tcframe.specs.VcSet.{has_vc}
 
 -- The width of FARM-1's sliding window; for each of 64 virtual channels the initial V(R), the value
 -- of the receiver frame sequence number before the first frame; and the virtual channels whose
--- frames have no segment headers. A separate initial V(R) for each virtual channel is the project's
--- own choice; such choices are called mission profile.
+-- frames have no segment headers. A separate initial V(R) for each virtual channel is this
+-- project's choice.
 pub record ReceptionParameters : Type 0 where
   pub window : ℕ
   pub starts : List ℕ

@@ -15,7 +15,7 @@ segment_data segment = drop 1 segment
 
 -- The segment that stands for a unit without a segment header: all octets of the unit, after a
 -- segment header with sequence flags 3 (no segmentation) and MAP 0. Below, (2, 3) is a field of 2 bits
--- with the value 3, and (6, 0) the MAP. MAP 0 is the project's own choice (mission profile).
+-- with the value 3, and (6, 0) the MAP. MAP 0 is this project's choice.
 abbrev pub whole_segment : List ℕ → List ℕ
 whole_segment unit = octets_of 1 ((2, 3) ∷ (6, 0) ∷ []) ++ unit
 

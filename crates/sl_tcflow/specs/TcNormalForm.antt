@@ -1,6 +1,6 @@
 -- The normal form of delivered packets: the packets of each virtual channel and MAP, in frames of
 -- type AD. The frames keep nothing else of the recording that the packets came from. The form is
--- the project's own choice (mission profile); the frames are those of CCSDS 232.0-B.
+-- this project's choice; the frames are those of CCSDS 232.0-B.
 use Rattle.std.specs.Prelude.{◌≡◌, ℕ, ◌+◌, ◌-◌, ◌*◌, ◌/◌, ◌%◌, ◌<◌, ◌≤◌, ◌==◌, Bool, false, if◌then◌else◌, List, [], ◌∷◌, ◌++◌, length, take, drop, map, flat_map}
 use Rattle.std.specs.List.{AllByRecursion, concat, range_with_len, slice_index_or}
 use Rattle.sl_fields.specs.Field.{octets_of}

@@ -1,6 +1,6 @@
 -- A recording of TC frames: frames end to end, each as long as its frame length field states, and a
--- remainder. This way to divide a recording, and what ends its frames, are the project's own choice
--- (mission profile).
+-- remainder. This way to divide a recording, and what ends its frames, are this project's
+-- choice.
 use Rattle.std.specs.Prelude.{◌≡◌, ℕ, zero, suc, ◌-◌, nat_lt, Bool, true, ◌||◌, if◌then◌else◌, List, [], ◌∷◌, ◌++◌, length, take, drop, Option, None, Some}
 use Rattle.std.specs.List.{AllByRecursion, concat}
 use Rattle.sl_tcframe.specs.TcFrame.{TcFormat, stated_frame_len, least_of, is_cut}

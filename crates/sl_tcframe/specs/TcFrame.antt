@@ -1,6 +1,6 @@
 -- The TC transfer frame, CCSDS 232.0-B: its parts, why a frame is skipped, and what a frame
 -- carries. The spare bits of the header, and N(S) of types BD and BC, are ignored. To ignore them
--- is the project's own choice. Such choices are marked as mission profile here.
+-- is this project's choice. Such choices are marked so here.
 use Rattle.std.specs.Prelude.{◌≡◌, ◌≢◌, ⊤, ℕ, ◌+◌, ◌-◌, ◌<◌, ◌≤◌, ◌==◌, nat_lt, Bool, true, false, not, ◌&&◌, if◌then◌else◌, List, [], ◌∷◌, ◌++◌, length, take, drop, Option, None, Some, Result, Ok, Err}
 use Rattle.sl_fields.specs.Fecf.{fecf_is_good}
 use Rattle.sl_fields.specs.FecfField.{fecf_len}
@@ -75,8 +75,8 @@ pub data Content : Type 0 where
 
 -- A data field has this content under this header. The bypass flag and the control command flag are
 -- the type: 0 and 0 is AD, 1 and 0 is BD, 1 and 1 is BC. N(S) matters in type AD alone. N(S) of the
--- other types, and the spare bits of all types, are ignored (mission profile). A unit has one octet
--- or more. Unlock is one octet of zeros, and Set V(R) is `82 00` and the value.
+-- other types, and the spare bits of all types, are ignored: this project's choice. A unit has one
+-- octet or more. Unlock is one octet of zeros, and Set V(R) is `82 00` and the value.
 abbrev pub Carries : TcFields → List ℕ → Content → Type 0
 Carries h field (Ad ns unit) =
     (h.bypass ≡ false) × (h.command ≡ false) × (field ≢ []) × (ns ≡ h.ns) × (unit ≡ field)

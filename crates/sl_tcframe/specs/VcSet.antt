@@ -1,5 +1,5 @@
 -- A set of virtual channels of CCSDS 232.0-B, as the list of its numbers in rising order, and the
--- text that lists them. The form of the text is the project's own choice (mission profile).
+-- text that lists them. The form of the text is this project's choice.
 use Rattle.std.specs.Prelude.{◌≡◌, ℕ, suc, ◌<◌, ◌≤◌, ◌==◌, nat_lt, Bool, false, ◌||◌, if◌then◌else◌, List, [], ◌∷◌, map, length}
 use Rattle.std.specs.Fmt.{decimal}
 use Rattle.std.specs.List.{join_with_byte}

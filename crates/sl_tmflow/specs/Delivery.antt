@@ -1,7 +1,6 @@
 -- The packets that a virtual channel of CCSDS 132.0-B delivers. A packet is found by its start in a
 -- frame and by the run of later frames up to the one in which it ends. The first header pointers of
--- the run have to agree with the packet (`agreeing_pointer`): mission profile, which is this
--- project's own choice.
+-- the run have to agree with the packet (`agreeing_pointer`): this project's choice.
 use Rattle.std.specs.Prelude.{◌≡◌, ◌≢◌, ⊤, ◌⊎◌, ℕ, ◌+◌, ◌-◌, ◌<◌, ◌≤◌, ◌==◌, nat_eq, nat_lt, if◌then◌else◌, List, [], ◌∷◌, ◌++◌, length, take, drop, map, Option, None, Some, is_some}
 use Rattle.std.specs.List.{AllByRecursion, filter, flat_map}
 use Rattle.std.specs.Option.{option_eq}
@@ -17,7 +16,7 @@ use Rattle.sl_tmflow.specs.PacketStart.{IsStart, starts_of}
 
 -- The first header pointer that agrees with a packet of `len` octets, where `before` of them came
 -- before the frame: none (no packet starts in the frame) where the packet covers the data field to
--- its end, and otherwise the offset at which the packet ends. Mission profile.
+-- its end, and otherwise the offset at which the packet ends. This project's choice.
 abbrev pub agreeing_pointer : ℕ → ℕ → List ℕ → Option ℕ
 agreeing_pointer len before field = if nat_lt len (before + length field) then Some (len - before) else None
 
@@ -35,7 +34,7 @@ pub record IsDeliveredBy (view : TmView) (octets : List ℕ) (run : List TmView)
   pub consecutive : AreConsecutive view run
   -- no frame of the run is opaque
   pub none_opaque : AllByRecursion (λ next. next.field ≢ Opaque) run
-  -- the pointer of each frame of packets agrees with the packet: mission profile
+  -- the pointer of each frame of packets agrees with the packet: this project's choice
   pub agreed :
       (earlier : List TmView) (next : TmView) (later : List TmView) (first : Option ℕ) (field : List ℕ)
       → run ≡ earlier ++ next ∷ later → next.field ≡ Packets first field

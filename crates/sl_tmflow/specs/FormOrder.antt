@@ -1,6 +1,6 @@
 -- The frames of a normal form, read as a recording: they come in a fixed order, their counts rise
--- by one, and the packets lie end to end in their data fields. All of it is mission profile, which
--- is this project's own choice.
+-- by one, and the packets lie end to end in their data fields. All of it is this project's
+-- choice.
 use Rattle.std.specs.Prelude.{◌≡◌, ℕ, ◌%◌, ◌<◌, ◌≤◌, List, [], ◌∷◌, ◌++◌, length, map, Option, None}
 use Rattle.std.specs.List.{AllByRecursion, concat, slice_index_or}
 use Rattle.sl_fields.specs.NeverFall.{NeverFall}

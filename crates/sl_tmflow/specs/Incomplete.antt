@@ -1,6 +1,6 @@
 -- Incomplete packets of a virtual channel, CCSDS 132.0-B: they start in one of its frames and go on
 -- past the last one. The first header pointer of each later frame has to agree with the packet:
--- mission profile, which is this project's own choice.
+-- this project's choice.
 use Rattle.std.specs.Prelude.{◌≡◌, ◌≢◌, ℕ, ◌<◌, ◌≤◌, List, [], ◌∷◌, ◌++◌, length, drop, Option, None}
 use Rattle.std.specs.List.{AllByRecursion, concat, flat_map}
 use mathlib.Core.List.{IsPrefix}
@@ -40,7 +40,7 @@ pub record IsIncomplete (channel : List TmView) (octets : List ℕ) : Type 0 whe
   -- no frame of the run is opaque
   pub none_opaque : AllByRecursion (λ next. next.field ≢ Opaque) run
   -- the pointer of each frame of packets agrees with the packet, which covers the data field:
-  -- mission profile
+  -- this project's choice
   pub no_start : AllByRecursion HasNoStart run
 
 -- The packet that starts in the frame with this number, counted from 0 in the channel, at this

@@ -1,6 +1,6 @@
 -- The normal form of a TM recording: the delivered packets of each virtual channel, in new frames
--- of CCSDS 132.0-B that depend on nothing else of the recording. All of it is mission profile,
--- which is this project's own choice. Here `room` is the length of a data field, and frames and
+-- of CCSDS 132.0-B that depend on nothing else of the recording. All of it is this project's
+-- choice. Here `room` is the length of a data field, and frames and
 -- data fields are numbered from 0.
 use Rattle.std.specs.Prelude.{◌≡◌, ◌⊎◌, ℕ, ◌+◌, ◌-◌, ◌*◌, ◌/◌, ◌%◌, ◌<◌, ◌≤◌, ◌==◌, ◌||◌, nat_lt, Bool, not, if◌then◌else◌, List, [], ◌∷◌, ◌++◌, length, take, drop, map, Option, None, Some, option_map}
 use Rattle.std.specs.List.{concat, find, range_with_len}

@@ -1,6 +1,5 @@
 -- A recording of TM frames: frames of the managed length end to end, and a remainder shorter than a
--- frame. That a recording is delimited in this way is mission profile, which is this project's own
--- choice.
+-- frame. That a recording is delimited in this way is this project's choice.
 use Rattle.std.specs.Prelude.{◌≡◌, ℕ, zero, suc, ◌*◌, ◌/◌, ◌<◌, List, [], ◌∷◌, ◌++◌, length, take, drop}
 use Rattle.std.specs.List.{AllByRecursion, concat}
 

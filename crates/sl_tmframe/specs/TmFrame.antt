@@ -1,7 +1,7 @@
 -- The TM transfer frame, CCSDS 132.0-B: its parts, why a frame is skipped, and what a frame
--- carries. This project's own choices are marked as mission profile. One of them is that the packet
--- order flag, the segment length identifier and the master channel frame count are not checked. The
--- virtual channel frame count is checked elsewhere: where frames of a channel are joined (`sl_tmflow`).
+-- carries. This project's choices are marked so. One of them is that the packet order flag, the
+-- segment length identifier and the master channel frame count are not checked. The virtual channel
+-- frame count is checked elsewhere: where frames of a channel are joined (`sl_tmflow`).
 use Rattle.std.specs.Prelude.{◌≡◌, ◌≢◌, ◌⊎◌, ⊤, ℕ, ◌+◌, ◌-◌, ◌<◌, ◌≤◌, ◌==◌, nat_lt, Bool, true, false, not, ◌&&◌, ◌||◌, if◌then◌else◌, List, ◌++◌, length, take, drop, Option, None, Some, IfSome, Result, Ok, Err}
 use Rattle.sl_fields.specs.Field.{number_of}
 use Rattle.sl_fields.specs.Fecf.{fecf_of, fecf_is_good}
@@ -12,7 +12,7 @@ use Rattle.sl_tmframe.specs.declared.tm_frame.TmSkip.TheVariants.{Fecf, Version,
 
 -- The managed format of a physical channel's frames: the length of every frame, and whether the
 -- last two octets of a frame are a frame error control field. All frames of a recording have this
--- one length: mission profile. In code this is a `TmShape`.
+-- one length: this project's choice. In code this is a `TmShape`.
 pub record TmFormat : Type 0 where
   pub len : ℕ
   pub fecf : Bool
@@ -101,9 +101,9 @@ PointsTo pointer field (Some start) = IsOffset pointer × (pointer < length fiel
 
 -- The class of a data field, in a frame with this header. The frame is opaque where the secondary
 -- header flag or the synchronisation flag is 1, or where the pointer is an offset at or past the
--- end of the data field; this class is mission profile. Where both flags are 0, pointer 2046 says
--- that there is only idle data. Where both flags are 0, and the pointer is 2047 or an offset before
--- the end, the data field is of packets.
+-- end of the data field; this class is this project's choice. Where both flags are 0, pointer 2046
+-- says that there is only idle data. Where both flags are 0, and the pointer is 2047 or an offset
+-- before the end, the data field is of packets.
 abbrev pub HasClass : TmFields → List ℕ → DataField → Type 0
 HasClass h field Opaque = (h.secondary ≡ true) ⊎ (h.sync ≡ true) ⊎ (IsOffset h.first × (length field ≤ h.first))
 HasClass h field Idle = (h.secondary ≡ false) × (h.sync ≡ false) × (h.first ≡ 2046)

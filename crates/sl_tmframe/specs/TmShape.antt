@@ -8,6 +8,6 @@ use Rattle.sl_fields.specs.declared.shape_fault.ShapeFault.TheVariants.{TmLength
 use Rattle.sl_tmframe.specs.TmFrame.{TmFormat}
 
 -- The format, or a fault where the length of its frames is outside 32 to 2048 octets. Both bounds
--- are mission profile, which is this project's own choice.
+-- are this project's choice.
 abbrev pub tm_shape : TmFormat → Result TmFormat ShapeFault
 tm_shape format = if is_outside 32 2048 format.len then Err TmLength else Ok format

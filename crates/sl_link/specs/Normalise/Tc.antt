@@ -1,4 +1,4 @@
--- The normal form of a TC recording, which `normalise_tc` writes: this project's mission profile.
+-- The normal form of a TC recording, which `normalise_tc` writes: this project's choice.
 use Rattle.std.specs.Prelude.{ℕ, List}
 use Rattle.sl_tcflow.specs.TcNormalForm.{tc_normal_form_of}
 use Rattle.sl_link.specs.Kind.Tc.{tc_packets}

@@ -1,4 +1,4 @@
--- The normal form of a TM recording, which `normalise_tm` writes: this project's mission profile.
+-- The normal form of a TM recording, which `normalise_tm` writes: this project's choice.
 use Rattle.std.specs.Prelude.{ℕ, List}
 use Rattle.sl_tmflow.specs.NormalForm.{normal_form}
 use Rattle.sl_link.specs.Kind.Tm.{tm_packets}

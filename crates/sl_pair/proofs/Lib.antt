@@ -38,3 +38,5 @@ pub mod SameCopies
 pub mod StruckLemmas
 -- two recordings that are read in turns
 pub mod TurnsLemmas
+-- laws of the order of APIDs, of runs and of numbers
+pub mod OrderLemmas

@@ -1,7 +1,8 @@
 -- Worked examples. The packets are short texts: no definition here asks for whole packets.
 use Rattle.std.proofs.Common.{◌≡◌, ◌+◌, List, ℕ, [], ◌∷◌, refl}
 use Rattle.sl_pair.specs.OnlyIn.{in_both, only_in, only_places}
-use Rattle.sl_pair.specs.Placed.{Placed, left_in}
+use Rattle.std.specs.List.{filter}
+use Rattle.sl_pair.specs.Placed.{Placed, has_apid, left_in, placed}
 use Rattle.sl_pair.specs.Runs.{by_apid, count_of, first_run, runs_of}
 use Rattle.sl_pair.specs.Turns.{FromFirst, FromSecond, after, nothing_read}
 
@@ -34,6 +35,8 @@ record Facts : Type 0 where
   numbers : left_in (c ∷ a ∷ b ∷ a ∷ []) (b ∷ [])
       ≡ record { packet = c; number = 0; apid_number = 0 } ∷ record { packet = a; number = 1; apid_number = 0 }
       ∷ record { packet = a; number = 3; apid_number = 2 } ∷ []
+  own_numbers : filter (has_apid 1) (placed (c ∷ a ∷ c ∷ b ∷ []))
+      ≡ record { packet = a; number = 1; apid_number = 0 } ∷ record { packet = b; number = 3; apid_number = 1 } ∷ []
   -- in turns: the second `a` of the first recording is left, since the first one was paired
   turns : after nothing_read (FromFirst a ∷ FromFirst a ∷ FromSecond b ∷ FromSecond a ∷ FromFirst b ∷ [])
       ≡ record {
@@ -66,6 +69,7 @@ facts =
       reordered = refl;
       nothing = refl;
       numbers = refl;
+      own_numbers = refl;
       turns = refl;
       count = refl;
       order = refl;

@@ -73,7 +73,7 @@ sorted_from n (one ∷ later) up = (go later up.0, sorted_from n later up.1)
 abbrev place_in_order : ℕ → Placed → ℕ
 place_in_order bound one = bound * apid_of one.packet + one.number
 
-put_all : (P : Placed → Type 0) (one : Placed) (xs : List Placed) → P one → AllByRecursion P xs → AllByRecursion P (put_by_apid one xs)
+pub put_all : (P : Placed → Type 0) (one : Placed) (xs : List Placed) → P one → AllByRecursion P xs → AllByRecursion P (put_by_apid one xs)
 put_all P one [] p all = (p, tt)
 put_all P one (next ∷ later) p all = elim (leb_tells (apid_of one.packet) (apid_of next.packet)) [
   | inr (is, below) ↦ rw is (all.0, put_all P one later p all.1)

@@ -1,6 +1,6 @@
 -- Packets with their numbers in a recording, on one channel.
-use Rattle.std.specs.Prelude.{◌≡◌, ℕ, ◌+◌, ◌==◌, ◌<◌, cond, List, [], ◌∷◌, ◌++◌, length, map, take}
-use Rattle.std.specs.List.{slice_index_or}
+use Rattle.std.specs.Prelude.{◌≡◌, ℕ, ◌+◌, ◌==◌, ◌<◌, Bool, cond, List, [], ◌∷◌, ◌++◌, length, map, take}
+use Rattle.std.specs.List.{filter, range_with_len, slice_index_or}
 use Rattle.sl_packet.specs.Packet.{apid_of}
 use Rattle.sl_pair.specs.OnlyIn.{Packets, copies, is_among, only_in, only_places, without_first}
 
@@ -38,6 +38,10 @@ only_placed (one ∷ later) others =
     cond (is_among one.packet others) (only_placed later (without_first one.packet others))
     (one ∷ only_placed later others)
 
+-- a packet has this APID
+abbrev pub has_apid : ℕ → Placed → Bool
+has_apid apid one = apid_of one.packet == apid
+
 -- the packets that only this recording has, with their numbers in it
 abbrev pub left_in : Packets → Packets → List Placed
 left_in packets others = only_placed (placed packets) others
@@ -66,6 +70,16 @@ pub record IsOneDefinition (packets others : Packets) : Type 0 where
 
 abbrev pub FormsAreOne : Type 0
 FormsAreOne = (packets others : Packets) → IsOneDefinition packets others
+
+-- The packets of a recording have the numbers 0, 1, 2 and so on, and so have those of each APID among themselves.
+pub record AreNumbered (packets : Packets) : Type 0 where
+  pub all : map (λ (one : Placed). one.number) (placed packets) ≡ range_with_len 0 (length packets)
+  pub each : (apid : ℕ)
+      → map (λ (one : Placed). one.apid_number) (filter (has_apid apid) (placed packets))
+      ≡ range_with_len 0 (count_apid apid packets)
+
+abbrev pub NumbersCount : Type 0
+NumbersCount = (packets : Packets) → AreNumbered packets
 
 -- Two recordings have the same packets in the same order exactly where neither has a packet of its own and each packet
 -- has the number of its counterpart.

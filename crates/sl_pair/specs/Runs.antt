@@ -1,8 +1,10 @@
 -- What only one recording has, APID by APID, and in runs.
-use Rattle.std.specs.Prelude.{ℕ, ◌+◌, ◌%◌, ◌==◌, ◌&&◌, Bool, nat_le, cond, List, [], ◌∷◌, take}
+use Rattle.std.specs.Prelude.{◌≡◌, ⊤, ℕ, ◌+◌, ◌%◌, ◌==◌, ◌≤◌, ◌&&◌, Bool, true, false, nat_le, cond, List, [], ◌∷◌, flat_map, take}
+use Rattle.std.specs.List.{AllByRecursion, filter}
+use Rattle.std.specs.List.Sorted.{IsPermutation}
 use Rattle.sl_fields.specs.PacketHeader.{packet_header}
 use Rattle.sl_packet.specs.Packet.{apid_of}
-use Rattle.sl_pair.specs.Placed.{Placed}
+use Rattle.sl_pair.specs.Placed.{Placed, has_apid}
 
 -- the sequence count of a packet
 abbrev pub count_of : List ℕ → ℕ
@@ -49,3 +51,47 @@ abbrev pub first_run : List Placed → ℕ
 first_run [] = 0
 first_run (one ∷ []) = 1
 first_run (one ∷ next ∷ later) = cond (goes_on one next) (first_run (next ∷ later) + 1) 1
+
+-- ---- laws
+
+-- no packet has a higher APID than a later one
+abbrev pub RisesByApid : List Placed → Type 0
+RisesByApid [] = ⊤
+RisesByApid (one ∷ later) =
+    AllByRecursion (λ next. apid_of one.packet ≤ apid_of next.packet) later × RisesByApid later
+
+-- The order of APIDs has the same packets, and those of one APID in the order that they had.
+pub record IsStablyByApid (left : List Placed) : Type 0 where
+  pub same : IsPermutation (by_apid left) left
+  pub rises : RisesByApid (by_apid left)
+  pub kept : (apid : ℕ) → filter (has_apid apid) (by_apid left) ≡ filter (has_apid apid) left
+
+abbrev pub ByApidIsStable : Type 0
+ByApidIsStable = (left : List Placed) → IsStablyByApid left
+
+-- of a run each packet goes on with it after the one before
+abbrev pub IsRun : List Placed → Type 0
+IsRun [] = ⊥
+IsRun (one ∷ []) = ⊤
+IsRun (one ∷ next ∷ later) = (goes_on one next ≡ true) × IsRun (next ∷ later)
+
+-- what comes after a run doesn't go on with it
+abbrev pub Ends : List Placed → List (List Placed) → Type 0
+Ends [] runs = ⊤
+Ends (one ∷ []) [] = ⊤
+Ends (one ∷ []) ([] ∷ runs) = ⊤
+Ends (one ∷ []) ((next ∷ later) ∷ runs) = goes_on one next ≡ false
+Ends (one ∷ next ∷ later) runs = Ends (next ∷ later) runs
+
+-- these are runs, each as long as may be
+abbrev pub AreLongestRuns : List (List Placed) → Type 0
+AreLongestRuns [] = ⊤
+AreLongestRuns (run ∷ runs) = IsRun run × Ends run runs × AreLongestRuns runs
+
+-- The runs, joined, are the packets, and each is as long as may be.
+pub record AreItsRuns (left : List Placed) : Type 0 where
+  pub joined : flat_map (λ run. run) (runs_of left) ≡ left
+  pub longest : AreLongestRuns (runs_of left)
+
+abbrev pub RunsAreJoined : Type 0
+RunsAreJoined = (left : List Placed) → AreItsRuns left

@@ -3,7 +3,8 @@ ghost use Rattle.sl_pair.specs.OnlyIn.{BothHaveSame, CopiesAreSubtracted, EachIs
 ghost use Rattle.sl_pair.specs.OnlyIn.{LacksWhatWasLost, NoneMeansReordered, NumbersBalance};
 ghost use Rattle.sl_pair.specs.OnlyIn.{OrderIsKept, OthersOrderIsNothing, PlacesHavePackets};
 ghost use Rattle.sl_pair.specs.OnlyIn.{SublistLacksOnly};
-ghost use Rattle.sl_pair.specs.Placed.{FormsAreOne, SameMeansInPlace};
+ghost use Rattle.sl_pair.specs.Placed.{FormsAreOne, NumbersCount, SameMeansInPlace};
+ghost use Rattle.sl_pair.specs.Runs.{ByApidIsStable, RunsAreJoined};
 ghost use Rattle.sl_pair.specs.Turns.{TurnsDontMatter};
 
 /// Of each packet, as many copies are only in one recording as it has more of them than the other
@@ -44,4 +45,17 @@ pub fn a_sublist_lacks_only()
 pub fn turns_dont_matter()
     ensures turns { TurnsDontMatter }
     ensures forms { FormsAreOne }
+{}
+
+/// The packets of a recording have the numbers 0, 1, 2 and so on, and so have those of each APID
+/// among themselves.
+pub fn numbers_count()
+    ensures { NumbersCount }
+{}
+
+/// The order of APIDs has the same packets, and those of one APID in the order that they had. Its
+/// runs, joined, are all of them again, and each is as long as may be.
+pub fn runs_are_what_is_left()
+    ensures order { ByApidIsStable }
+    ensures runs { RunsAreJoined }
 {}

@@ -97,9 +97,12 @@ fn breaks_run(stretch: &Stretch<'_>, order: &[Fate]) -> bool {
     let mut broken = false;
     for fate in order {
         let taken = left.take(*fate);
-        let first = taken.first.map(|mark| mark.count);
-        let second = taken.second.map(|mark| mark.count);
-        broken = firsts.is_broken_at(first) || seconds.is_broken_at(second) || broken;
+        if fate.stands() {
+            let first = taken.first.map(|mark| mark.count);
+            let second = taken.second.map(|mark| mark.count);
+            broken = firsts.is_broken_at(first) || broken;
+            broken = seconds.is_broken_at(second) || broken;
+        }
     }
     let right = stretch.ends.right;
     right.is_some() && (firsts.is_broken_at(right) || seconds.is_broken_at(right)) || broken

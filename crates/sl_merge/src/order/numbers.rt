@@ -148,8 +148,12 @@ fn fate_by_position(both: &Both<'_>, one: &Mark, other: &Mark) -> Fate {
     let second = (other.bracket, other.position);
     if second < first {
         Fate::Second
-    } else if first == second && both.are_same(one.place, other.place) {
+    } else if first < second {
+        Fate::First
+    } else if both.are_same(one.place, other.place) {
         Fate::Both
+    } else if both.are_copies(one.place, other.place) {
+        Fate::SecondLeftOut
     } else {
         Fate::First
     }

@@ -89,14 +89,15 @@ without_repeats before [] = []
 without_repeats before (item ∷ later) =
     unless (is_repeat before item) item (without_repeats (before_after before item) later)
 
--- a stretch between frames of both: how many frames of the first recording are left out of it, and how many of the second
--- alone stand in it
+-- A stretch between frames of both: the count of the frame of both before it, if there is one, how many frames of the
+-- first recording are left out of it, and how many of the second alone stand in it.
 pub record Stretch : Type 0 where
+  pub after : Option ℕ
   pub left_out : ℕ
   pub others : ℕ
 
 abbrev pub empty_stretch : Stretch
-empty_stretch = record { left_out = 0; others = 0 }
+empty_stretch = record { after = None; left_out = 0; others = 0 }
 
 -- a stretch with one frame more, by its fate
 abbrev pub with_fate : Fate → Stretch → Stretch
@@ -110,31 +111,51 @@ abbrev pub with_front : Fate → List Stretch → List Stretch
 with_front fate [] = []
 with_front fate (stretch ∷ later) = with_fate fate stretch ∷ later
 
+-- the first stretch comes after a frame of both with this count
+abbrev pub begun_by : ℕ → List Stretch → List Stretch
+begun_by count [] = []
+begun_by count (stretch ∷ later) = record stretch { after = Some count } ∷ later
+
 abbrev pub is_both : Fate → Bool
 is_both fate = of_first fate && of_first (turned fate)
 
-abbrev pub cut_at : Fate → List Stretch → List Stretch
-cut_at fate later = cond (is_both fate) (empty_stretch ∷ later) (with_front fate later)
+abbrev pub cut_at : Fated → List Stretch → List Stretch
+cut_at item later =
+    cond (is_both item.fate) (empty_stretch ∷ begun_by (count_of item.frame) later) (with_front item.fate later)
 
 -- the stretches, cut at each frame of both
 abbrev pub stretches : List Fated → List Stretch
 stretches [] = empty_stretch ∷ []
-stretches (item ∷ later) = cut_at item.fate (stretches later)
+stretches (item ∷ later) = cut_at item (stretches later)
 
--- after the first frame of both: no more frames are left out of a stretch than frames of the other alone stand in it, and
--- none of the last one
+-- as many frames as may have a damaged count or virtual channel where no frame has room
+abbrev pub few : ℕ
+few = 8
+
+-- the count follows the one before the stretch, if there are both
+abbrev pub is_closed_by : Stretch → Option ℕ → Bool
+is_closed_by stretch None = false
+is_closed_by stretch (Some count) = follows_last stretch.after count
+
+-- Frames may be left out of a stretch between two frames of both: no more than frames of the other alone stand in it; or
+-- a few where the count of the second frame of both follows that of the first, so that no frame has room between them.
+abbrev pub is_fair : Stretch → Option ℕ → Bool
+is_fair stretch count =
+    nat_le stretch.left_out stretch.others || (nat_le stretch.left_out few && is_closed_by stretch count)
+
+-- so of each stretch after the first frame of both, and none of the last one
 abbrev pub are_fair_later : List Stretch → Bool
 are_fair_later [] = true
 are_fair_later (stretch ∷ []) = stretch.left_out == 0
-are_fair_later (stretch ∷ next ∷ later) = nat_le stretch.left_out stretch.others && are_fair_later (next ∷ later)
+are_fair_later (stretch ∷ next ∷ later) = is_fair stretch next.after && are_fair_later (next ∷ later)
 
 -- none is left out before the first frame of both
 abbrev pub are_fair : List Stretch → Bool
 are_fair [] = true
 are_fair (stretch ∷ later) = (stretch.left_out == 0) && are_fair_later later
 
--- Each frame of the first recording that is left out is a repeat, or lies in a stretch between two frames of both of which
--- no more frames of it are left out, repeats aside, than frames of the second alone stand there.
+-- Each frame of the first recording that is left out is a repeat, or lies in a stretch between two frames of both which
+-- is fair to what is left out of it, repeats aside.
 abbrev pub has_reasons : List Fated → Bool
 has_reasons items = are_fair (stretches (without_repeats [] items))
 

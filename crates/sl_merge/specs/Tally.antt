@@ -1,20 +1,27 @@
 -- What came so far of a stretch between frames of both recordings. Contracts of private functions alone cite this.
-use Rattle.std.specs.Prelude.{◌+◌, ◌==◌, nat_le, Bool, true, cond}
+use Rattle.std.specs.Prelude.{ℕ, ◌+◌, ◌==◌, nat_le, Bool, true, ◌&&◌, ◌||◌, Option, None, Some}
 use Rattle.sl_merge.specs.declared.channel.Tally.{Tally}
 use Rattle.sl_merge.specs.declared.fate.Fate.{Fate}
 use Rattle.sl_merge.specs.declared.fate.Fate.TheVariants.{Both, First, FirstLeftOut, Second, SecondLeftOut}
+use Rattle.sl_merge.specs.Merge.{few, follows_last}
 
--- a frame with this fate may come next: where it ends the stretch, no more frames are left out than others stand
-abbrev pub admits : Tally → Fate → Bool
-admits tally Both = cond tally.is_begun (nat_le tally.left_out tally.others) (tally.left_out == 0)
-admits tally First = true
-admits tally FirstLeftOut = true
-admits tally Second = true
-admits tally SecondLeftOut = true
+-- frames may be left out of a stretch after a frame of both, where one with this count ends it
+abbrev pub ends_fairly : Option ℕ → ℕ → ℕ → ℕ → Bool
+ends_fairly None left_out others count = left_out == 0
+ends_fairly (Some last) left_out others count =
+    nat_le left_out others || (nat_le left_out few && follows_last (Some last) count)
 
-abbrev pub tally_after : Fate → Tally → Tally
-tally_after Both tally = record { is_begun = true; left_out = 0; others = 0 }
-tally_after First tally = tally
-tally_after SecondLeftOut tally = tally
-tally_after FirstLeftOut tally = record tally { left_out = tally.left_out + 1 }
-tally_after Second tally = record tally { others = tally.others + 1 }
+-- a frame with this fate and count may come next
+abbrev pub admits : Tally → Fate → ℕ → Bool
+admits tally Both count = ends_fairly tally.after tally.left_out tally.others count
+admits tally First count = true
+admits tally FirstLeftOut count = true
+admits tally Second count = true
+admits tally SecondLeftOut count = true
+
+abbrev pub tally_after : Fate → ℕ → Tally → Tally
+tally_after Both count tally = record { after = Some count; left_out = 0; others = 0 }
+tally_after First count tally = tally
+tally_after SecondLeftOut count tally = tally
+tally_after FirstLeftOut count tally = record tally { left_out = tally.left_out + 1 }
+tally_after Second count tally = record tally { others = tally.others + 1 }

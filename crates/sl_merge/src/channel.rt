@@ -1,9 +1,9 @@
 //! What a merge asks of the frames of one virtual channel.
 ghost use Rattle.std.specs.Prelude.{◌≡◌, ◌+◌, ◌<◌, ◌^◌, ℕ, [], None, false};
-ghost use Rattle.sl_merge.specs.Merge.{before_after, between_after, breaks, follows_last};
+ghost use Rattle.sl_merge.specs.Merge.{before_after, between_after, breaks, count_of, follows_last};
 ghost use Rattle.sl_merge.specs.Merge.{has_reasons, is_repeat, is_unbroken, keeps_first, last_after};
 ghost use Rattle.sl_merge.specs.Told.{from_side};
-ghost use Rattle.sl_merge.specs.Tally.{admits, tally_after};
+ghost use Rattle.sl_merge.specs.Tally.{admits, ends_fairly, tally_after};
 
 use crate::fate::Fate;
 use crate::item::Item;
@@ -85,11 +85,14 @@ fn is_unbroken(items: &[Item], is_turned: bool) -> bool
     true
 }
 
+// How many frames may have a damaged count or virtual channel where no frame has room.
+const FEW: usize = 8;
+
 // What came of a stretch between frames of both recordings.
 #[derive(Clone, Copy)]
 struct Tally {
-    // Whether a frame of both came before.
-    is_begun: bool,
+    // The count of the frame of both that came before, if one did.
+    after: Option<u8>,
     // How many frames of the recording are left out, repeats aside.
     left_out: usize,
     // How many frames of the other recording alone stand.
@@ -99,12 +102,24 @@ struct Tally {
 impl Tally {
     // Whether the frames that are left out have a reason, where the next frame ends the stretch.
     fn admits(&self, item: &Item) -> bool
-        ensures { result ≡ admits self.now item.now.fate }
+        ensures { result ≡ admits self.now item.now.fate (count_of item.now.frame) }
     {
         match item.fate() {
-            Fate::Both if self.is_begun => self.left_out <= self.others,
-            Fate::Both => self.left_out == 0,
+            Fate::Both => self.ends_fairly(item.count()),
             _ => true,
+        }
+    }
+
+    // Whether they have a reason, where a frame of both with this count ends the stretch.
+    fn ends_fairly(&self, count: u8) -> bool
+        ensures { result ≡ ends_fairly self.now.after self.now.left_out self.now.others count }
+    {
+        match self.after {
+            Some(last) => {
+                self.left_out <= self.others
+                    || (self.left_out <= FEW && follows(Some(last), count))
+            }
+            None => self.left_out == 0,
         }
     }
 
@@ -112,11 +127,11 @@ impl Tally {
     fn after(self, item: &Item) -> Tally
         requires left_out { self.left_out + 1 < 2 ^ 64 }
         requires others { self.others + 1 < 2 ^ 64 }
-        ensures { result ≡ tally_after item.now.fate self }
+        ensures { result ≡ tally_after item.now.fate (count_of item.now.frame) self }
     {
         match item.fate() {
             Fate::Both => Tally {
-                is_begun: true,
+                after: Some(item.count()),
                 left_out: 0,
                 others: 0,
             },
@@ -140,7 +155,7 @@ fn has_reasons(items: &[Item], is_turned: bool) -> bool
 {
     let mut before: &[u8] = &[];
     let mut tally = Tally {
-        is_begun: false,
+        after: None,
         left_out: 0,
         others: 0,
     };

@@ -5,6 +5,7 @@ mod choice;
 mod copies;
 mod lanes;
 mod marks;
+mod misplaced;
 mod numbers;
 mod payloads;
 mod positions;
@@ -42,7 +43,8 @@ pub struct Order {
     /// near which a nearly equal one of the other recording stands. All frames of them stand in the
     /// merge.
     pub open: u64,
-    /// The stretches of which one recording's frames are left out.
+    /// The stretches of which one recording's frames are left out, and, without error control field,
+    /// the frames that are left out amid a run of the other recording.
     pub undecided: u64,
     /// The stretches in which one recording lost 256 frames of a channel in a row or more, or both
     /// did, and one way fits the frames, or one is clearly the likeliest.

@@ -3,6 +3,7 @@ use crate::fate::Fate;
 use crate::order::channel::Channel;
 use crate::order::choice::{Care, Choice, choose, is_idle};
 use crate::order::marks::{Mark, marks_on};
+use crate::order::misplaced::leave_misplaced;
 use crate::order::numbers::Both;
 use crate::order::seen::{Role, Seen};
 use crate::order::stretch::{Stretch, order_stretch};
@@ -67,7 +68,11 @@ pub(crate) fn order_lanes(
         let firsts = marks_on(alloc, &frames.firsts, vc)?;
         let seconds = marks_on(alloc, &frames.seconds, vc)?;
         let mut channel = Channel::new(&firsts, &seconds);
-        let order = order_channel(alloc, both, &mut channel, care, choices)?;
+        let mut order = order_channel(alloc, both, &mut channel, care, choices)?;
+        if !both.one.fecf() {
+            let left = leave_misplaced(alloc, &firsts, &seconds, order.as_mut_slice())?;
+            choices.frames = choices.frames.saturating_add(left);
+        }
         lanes.push(lane_of(alloc, frames, (&firsts, &seconds), order.as_slice())?)?;
     }
     Ok(lanes)

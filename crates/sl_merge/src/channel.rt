@@ -116,8 +116,7 @@ impl Tally {
     {
         match self.after {
             Some(last) => {
-                self.left_out <= self.others
-                    || (self.left_out <= FEW && follows(Some(last), count))
+                self.left_out <= self.others || (self.left_out <= FEW && follows(Some(last), count))
             }
             None => self.left_out == 0,
         }

@@ -15,7 +15,7 @@ import sys
 from functools import partial
 
 import recordings
-from stations import MARKER, TC, TM, mixed
+from coding import MARKER, TC, TM, mixed
 
 # Each word with its value where it is left out.
 WORDS = (

@@ -5,36 +5,13 @@ import random
 from collections import namedtuple
 
 import recordings
+from coding import MARKER, START, TAIL, TC, TM, mixed, parity
 
-MARKER, START, TAIL = b"\x1a\xcf\xfc\x1d", b"\xeb\x90", b"\xc5" * 7 + b"\x79"
 LENGTHS = (64, 128, 223, 256, 446, 512, 892, 1024, 1115, 1279, 1784, 2044)
 SHAPES = ("cadu", "cadu parity", "cadu randomised", "cadu header", "header", "trailer", "header trailer", "junk",
           "randomised", "randomised header", "bare", "cadu parity randomised", "tc", "tc", "cltu", "cltu randomised")
 # A file: its octets, how it was made, what it is, at how many places its frames shift, and those that are whole.
 Made = namedtuple("Made", "octets shape kind scid length fecf randomised shifts frames")
-
-
-def sequence(*taps):
-    """The 255 octets of a randomiser, whose next bit is the sum of those that came so many bits ago."""
-    bits = [1] * 8
-    while len(bits) < 2040:
-        bits.append(sum(bits[-tap] for tap in taps) % 2)
-    return int("".join(map(str, bits)), 2).to_bytes(255, "big")
-
-
-TM, TC = sequence(1, 3, 5, 8), sequence(2, 4, 5, 6, 7, 8)
-
-
-def mixed(octets, table):
-    return bytes(octet ^ table[at % 255] for at, octet in enumerate(octets))
-
-
-def parity(seven):
-    """The remainder of a division of bits by x^7 + x^6 + x^2 + 1, inverted."""
-    number = int.from_bytes(seven, "big") << 7
-    for bit in range(62, 6, -1):
-        number ^= 0b11000101 << bit - 7 if number >> bit & 1 else 0
-    return number ^ 127
 
 
 def noise(r, octets):
@@ -61,24 +38,20 @@ def damaged(r, octets, junk):
 
 
 def tm(r, shape):
-    """TM frames, with the octets that a station has around each."""
+    """TM frames, and the octets that a station has around each, at a number."""
     length = r.choice((*LENGTHS, r.randint(32, 2048)))
     scid, fecf, number = r.randrange(1024), r.random() < 0.75, r.randint(20, max(25, min(300, 300000 // length)))
     sent = recordings.tm_frames(r, number, scid, length, fecf, r.random(), r.sample(range(7), r.randint(1, 4)))
-    lost, wrong = r.choice((0, 0, 0.02)), r.choice((0, 0.01))
-    frames = [frame for frame in sent if r.random() >= lost]
-    kept = [recordings.flipped(r, frame) if r.random() < wrong else frame for frame in frames]
-    marker, on = MARKER if "cadu" in shape else b"", "randomised" in shape
     lead = r.choice((4, 10, 12, 16, 20, 32)) if "header" in shape else 0
     trail = 32 * r.choice((1, 2, 4, 5, 8)) if "parity" in shape else r.choice((4, 8, 16)) if "trailer" in shape else 0
-    before, after, octets = r.choice(STYLES), STYLES[1] if "parity" in shape else r.choice(STYLES), b""
-    for at, frame in enumerate(kept):
-        own = recordings.flipped(r, marker) if marker and r.random() < wrong else marker
-        octets += (before(r, at, lead) if lead else b"") + own + (mixed(frame, TM) if on else frame)
-        octets += after(r, at, trail) if trail else b""
-    octets, shifts = damaged(r, octets, shape == "junk")
-    whole = [frame for frame, one in zip(frames, kept) if frame == one]
-    return Made(octets, shape, "tm", scid, length, fecf, on, shifts, whole)
+    before, after = r.choice(STYLES), STYLES[1] if "parity" in shape else r.choice(STYLES)
+
+    def around(at, frame, wrong):
+        own = recordings.flipped(r, MARKER) if r.random() < wrong else MARKER
+        frame = (own if "cadu" in shape else b"") + (mixed(frame, TM) if "randomised" in shape else frame)
+        return (before(r, at, lead) if lead else b"") + frame + (after(r, at, trail) if trail else b"")
+
+    return scid, length, fecf, sent, around
 
 
 def tc(r, shape):
@@ -86,14 +59,9 @@ def tc(r, shape):
     scid, fecf, vcs = r.randrange(1024), r.random() < 0.5, sorted(r.sample(range(64), r.randint(1, 3)))
     starts = {vc: r.choice((0, r.randrange(256))) for vc in vcs}
     plain = [vc for vc in vcs if r.random() < 0.3]
-    lost, wrong, on = r.choice((0, 0, 0.02)), r.choice((0, 0.01)), "randomised" in shape
     sent = recordings.tc_frames(r, r.randint(20, 200), scid, r.choice((20, 60, 200, 480)), fecf, vcs, plain, starts)
-    frames = [frame for frame in sent if r.random() >= lost]
-    kept = [recordings.flipped(r, frame) if r.random() < wrong else frame for frame in frames]
-    octets = b"".join(kept if shape == "tc" else (coded(frame, on) + b"\x55" * r.randint(0, 9) for frame in kept))
-    octets, shifts = damaged(r, octets, False)
-    whole = [frame for frame, one in zip(frames, kept) if frame == one]
-    return Made(octets, shape, "tc", scid, 0, fecf, on, shifts, whole)
+    return scid, 0, fecf, sent, lambda at, frame, _: frame if shape == "tc" else (
+        coded(frame, "randomised" in shape) + b"\x55" * r.randint(0, 9))
 
 
 def coded(frame, randomised):
@@ -107,4 +75,11 @@ def coded(frame, randomised):
 def made(seed, number):
     """The file of this number and seed."""
     r, shape = random.Random(f"{seed} {number}"), SHAPES[number % len(SHAPES)]
-    return (tc if shape.partition(" ")[0] in ("tc", "cltu") else tm)(r, shape)
+    kind = "tc" if shape[:4] in ("tc", "cltu") else "tm"
+    scid, length, fecf, sent, around = (tc if kind == "tc" else tm)(r, shape)
+    lost, wrong = r.choice((0, 0, 0.02)), r.choice((0, 0.01))
+    frames = [frame for frame in sent if r.random() >= lost]
+    kept = [recordings.flipped(r, frame) if r.random() < wrong else frame for frame in frames]
+    octets, shifts = damaged(r, b"".join(around(at, it, wrong) for at, it in enumerate(kept)), shape == "junk")
+    whole = [frame for frame, one in zip(frames, kept) if frame == one]
+    return Made(octets, shape, kind, scid, length, fecf, "randomised" in shape, shifts, whole)

@@ -102,7 +102,7 @@ def identified(recording: str) -> str:
     what, *lines = _identify(recording) or ["", ""]
     if lines[-1].startswith("sllink check ") and not any(">" in line for line in lines):
         what += f", read with {lines[-1][13:].partition(' < ')[0]}"
-    telling = ("secondary header ", "virtual channel access ", "can't say: ")
+    telling = ("secondary header ", "can't say: ")
     return "; ".join([what, *(line.replace("can't say: frames shift", "frames shift") for line in lines
                               if line.startswith(telling))])
 

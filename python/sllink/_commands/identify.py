@@ -7,15 +7,13 @@
     -h, --help     Print help
     -V, --version  Print the version
 
-The first line says what it is, and the last ones are commands of a shell: sllink-frames writes the frames into
-a file beside it, where they aren't all of it, and sllink check reads them. Of two recordings, the last line
-compares them. Where the signs aren't plain the last line begins with "can't say:" and says why, as where frames
-shift, since octets are missing or too many; then the lines before it have the places.
+The first line says what it is, and the last ones are commands of a shell: sllink-frames writes the frames into a file
+beside it, where they aren't all of it, and sllink check reads them. Of two recordings, the last line compares them.
+Where the signs aren't plain, or frames shift, the last line begins with "can't say:" and says why.
 
-Status: 0 there are commands, with --options words; 1 there are none; 2 the recording can't be read, with a line
-on the standard error. It has to be a file. One whose name begins with a dash is ./-NAME, or comes after --. No
-other program is run, and nothing is written. Where whoever reads the output goes away, or SIGINT, SIGTERM or
-SIGHUP stops the tool, the status is 2 without a line.
+Status: 0 there are commands, with --options words; 1 there are none; 2 the recording can't be read, with a line on the
+standard error. It has to be a file; one whose name begins with a dash is ./-NAME, or comes after --. Nothing else is
+run or written. Where whoever reads the output goes away, or a signal stops the tool, the status is 2 without a line.
 
 Example: sllink packets $(sllink-identify --options pass.tm) < pass.tm
 """
@@ -25,27 +23,19 @@ import sys
 from typing import List
 
 from .._identify import compared, identify
-from ..tool import Refused, reason_of, require_name, shown
-
-NAME = "sllink-identify"
+from ..tool import Refused, require_name, shown
 
 
 def main(words: List[str]) -> int:
     # not by argparse, which has lines of its own for a name that begins with a dash, and takes --opt for --options
     end = words.index("--") if "--" in words else len(words)
-    names = [word for word in words[:end] if word != "--options"]
+    alone, names = "--options" in words[:end], [word for word in words[:end] if word != "--options"]
     for name in names:
         require_name(name)
     names += words[end + 1:]
-    alone = "--options" in words[:end]
     if not 1 <= len(names) <= 2 - alone:
-        raise Refused(f"one recording is wanted, or two without --options; usage: {NAME} [--options] RECORDING")
-    found = []
-    for name in names:
-        try:
-            found.append(identify(name))
-        except OSError as error:
-            raise Refused(f"{shown(name)}: {reason_of(error)}") from None
+        raise Refused("one recording is wanted, or two without --options; usage: sllink-identify [--options] RECORDING")
+    found = [identify(name) for name in names]
     lines = [" ".join(found[0].words)] if alone else [f"{shown(name)}: {it}" for name, it in zip(names, found)]
     lines += [compared(*found)] if len(found) > 1 else []
     sys.stdout.buffer.write(os.fsencode("".join(f"{line}\n" for line in lines if line)))

@@ -2,9 +2,10 @@
 
 import errno
 import os
+import shlex
 import stat
 from dataclasses import dataclass
-from typing import Optional, Tuple, Union
+from typing import List, Optional, Sequence, Tuple, Union
 
 from .._options import Options, options_of
 
@@ -13,10 +14,10 @@ from .._options import Options, options_of
 class Identification:
     """What a recording is. str() gives the lines of sllink-identify, without the recording's name.
 
-    `what` says it in some words, and `lines` say what was found. Where the recording is identified, `commands` are
-    command lines of a shell that write its frames, where that is needed, and check them, for each spacecraft, or that
-    unpack it; else there are none, and `why` says why not. Where the program reads the recording as it is, `words` are
-    the kind and the options of its command line, as in `tm --scid 1 --tm-length 1115`.
+    `what` says it in some words, and `lines` say what was found. If that is plain, `commands` are command lines of a
+    shell that write its frames, if that is needed, and check them, for each spacecraft, or that unpack it; else `why`
+    says why there are none. Where the program reads it as it is, `words` are the kind and the options of its command
+    line, as in `tm --scid 1 --tm-length 1115`.
     """
 
     what: str
@@ -51,18 +52,41 @@ def identify(recording: Union[str, bytes, "os.PathLike[str]", "os.PathLike[bytes
     with open(name, "rb", buffering=0, opener=lambda path, flags: os.open(path, flags | os.O_NONBLOCK)) as file:
         about = os.fstat(file.fileno())
         if not stat.S_ISREG(about.st_mode) or not about.st_size and file.read(1):
-            why = "is no file with a size, but one of the system" if stat.S_ISREG(about.st_mode) else "is no file"
-            raise OSError(errno.ESPIPE, why, name)
+            raise OSError(errno.ESPIPE, "is no file with a size", name)
         return identification(name, file.fileno())
 
 
 def compared(one: Identification, other: Identification) -> str:
     """The command line that compares two recordings, by those that check them, or why there is none."""
-    checks = [line[13:] for it in (one, other) for line in it.commands if line.startswith("sllink check ")]
-    if len(checks) != 2 or checks[0].split()[:3] != checks[1].split()[:3]:
+    checks = [line[13:].partition(" < ") for it in (one, other) for line in it.commands if line[:13] == "sllink check "]
+    if len(checks) != 2 or checks[0][0].split()[:3] != checks[1][0].split()[:3]:
         return "can't say: these aren't two recordings of one spacecraft that sllink reads"
-    (first, _, one_name), (second, _, other_name) = (check.partition(" < ") for check in checks)
-    words = first.split()
-    own = [f"--{side}-options '{' '.join(it.split()[3:])}'" for side, it in zip("ab", (first, second))]
-    options = " ".join(words[1:] if first == second else [*words[1:3], *own])
-    return f"sllink-compare {words[0]} {one_name} {other_name} {options}"
+    (first, _, one_name), (second, _, other_name) = checks
+    kind, *options = first.split()
+    if first != second:
+        options[2:] = [f"--{side}-options '{' '.join(it.split()[3:])}'" for side, it in (("a", first), ("b", second))]
+    return f"sllink-compare {kind} {one_name} {other_name} {' '.join(options)}"
+
+
+def quoted(name: str, ending: str = "") -> str:
+    """A name, with an ending, as bash has it: no option, and without what a terminal mustn't get."""
+    name = "./" * name.startswith("-") + name + ending
+    return shlex.quote(name) if name.isprintable() else "$'" + "".join(
+        chr(it) if 32 <= it < 127 and it not in b"'\\" else f"\\{it:03o}" for it in os.fsencode(name)) + "'"
+
+
+def frames_of(name: str, what: str, lines: List[str], words: Sequence[List[str]], why: str,
+              pieces: Sequence[range] = (), begin: int = 0, program: str = "") -> Identification:
+    """What is known of frames: the words with which each spacecraft's are read, or why there are none; the pieces in
+    which they lie; where they begin, and the program that writes them, if they aren't all of a file."""
+    if len(pieces) > 1:
+        lines += [f"piece at {it.start} octets {len(it)}" for it in pieces[:20]]
+        why = why or f"frames shift: octets are missing, or too many, between {len(pieces)} pieces"
+    if why:
+        return Identification(what, tuple(lines), why=why)
+    writes = [f"tail -c +{begin + 1}"] * (begin > 0) + [program] * bool(program)
+    commands = [f"sllink check {' '.join(it)} < {quoted(name, '.frames' * bool(writes))}" for it in words]
+    if writes:
+        writes[0] += f" {quoted(name)}"
+        commands.insert(0, f"{' | '.join(writes)} > {quoted(name, '.frames')}")
+    return Identification(what, tuple(lines), () if writes else tuple(words[0]), tuple(commands))

@@ -1,73 +1,243 @@
 """What a recording is, by the first sign that it has."""
 
 import re
-from itertools import islice
-from typing import Optional
+from binascii import crc_hqx
+from collections import Counter
+from itertools import islice, takewhile
+from typing import Iterator, List, NamedTuple, Optional, Sequence, Tuple
 
-from . import Identification
-from .answer import TRIED, Recording, quoted
-from .signs import APART, PAIRS, SHORTEST, TM_SEQUENCE, control, headers, right_frames
-from .tc import cltus, tc
-from .tm import CADUS, by_distance, by_markers, tm
+from . import Identification, frames_of, quoted
+from .signs import (APART, PAIRS, SHORTEST, TC_SEQUENCE, TM_SEQUENCE, TRIED, Recording, Seen, about, chained, control,
+                    craft_of, crafts, data_end, fitting, headers, right_fields, right_frames, risen, stated, tc_craft,
+                    tc_field, unmasked, walked)
 
-HEAD, HEADERS = 1 << 17, 1 << 16                          # octets in which signs are searched for, and headers
-CAPTURED = "tshark -r {} -T fields -e udp.payload | xxd -r -p > {}"
-ARCHIVES = (
-    ("compressed by gzip", "gunzip < {} > {}", b"\x1f\x8b"), ("compressed by bzip2", "bunzip2 < {} > {}", b"BZh"),
-    ("compressed by xz", "unxz < {} > {}", b"\xfd7zXZ\0"), ("a zip archive", "unzip -p {} > {}", b"PK\3\4"),
-    ("compressed by zstd", "unzstd < {} > {}", b"\x28\xb5\x2f\xfd"),
-    ("a capture of the format pcapng, of packets of a network", CAPTURED, b"\x0a\x0d\x0d\x0a"),
-    ("a capture of the format pcap, of packets of a network", CAPTURED, b"\xd4\xc3\xb2\xa1", b"\xa1\xb2\xc3\xd4",
-     b"\x4d\x3c\xb2\xa1", b"\xa1\xb2\x3c\x4d"))
-READS = "sllink reads TM and TC frames"
+HEAD, BLOCK, WHOLE = 1 << 17, 1 << 20, 2 << 20            # octets of signs, TM frames, TC frames that are looked at
+MARKER, START, TAIL = b"\x1a\xcf\xfc\x1d", b"\xeb\x90", b"\xc5" * 7 + b"\x79"        # of 131.0-B and of 231.0-B
+CADUS, READS = "CADUs: sync markers (1ACFFC1D) before frames", "sllink reads TM and TC frames"
+FILES = (                                                 # the command that makes octets of a file, and how it begins
+    ("compressed by gzip", "gunzip < {} > {}", rb"\x1f\x8b"), ("compressed by bzip2", "bunzip2 < {} > {}", rb"BZh"),
+    ("compressed by xz", "unxz < {} > {}", rb"\xfd7zXZ\0"), ("a zip archive", "unzip -p {} > {}", rb"PK\x03\x04"),
+    ("compressed by zstd", "unzstd < {} > {}", rb"\x28\xb5\x2f\xfd"), ("empty", "", rb"\Z"),
+    ("a capture of packets of a network (pcap)", "tshark -r {} -T fields -e udp.payload | xxd -r -p > {}",
+     rb"\n\r\r\n|[\xd4\x4d][\xc3\x3c]\xb2\xa1|\xa1\xb2[\xc3\x3c][\xd4\x4d]"),
+    ("hexadecimal digits", "xxd -r -p < {} > {}", rb"\s*[\da-fA-F][\da-fA-F\s]{7,}\Z"), ("text", "", rb"[\s -~]+\Z"))
 
 
 def identification(name: str, file: int) -> Identification:
-    """What the recording of this name is."""
+    """What the recording of this name is, by each sign in turn."""
     recording = Recording(name, file)
     head = recording.read(0, HEAD)
-    found = archive(name, head) or frames(recording, head) or other(head) or Identification(
-        "unknown", why="there are no sync markers, start sequences, error control fields or headers that go on")
-    return found if recording.tried <= TRIED else Identification(
-        "unknown", why=f"stopped after {TRIED} places at which a frame might begin")
-
-
-def archive(name: str, head: bytes) -> Optional[Identification]:
-    """Something compressed, a capture or text, with the command that makes octets of frames of it."""
-    bare = re.sub(r"\.(gz|bz2|xz|zst|zip)$", "", name)
-    for what, command, *begins in ARCHIVES:
-        if head.startswith(tuple(begins)):
+    for what, command, begins in FILES:
+        if re.match(begins, head):
+            bare = re.sub(r"\.(gz|bz2|xz|zst|zip)$", "", name)
             command = command.format(quoted(name), quoted(bare, ".octets" * (bare == name)))
-            return Identification(what, commands=(command,))
-    if re.fullmatch(rb"[0-9A-Fa-f\s]*", head) and re.search(rb"[0-9A-Fa-f]{8}", head):
-        command = f"xxd -r -p < {quoted(name)} > {quoted(name, '.octets')}"
-        return Identification("hexadecimal digits", commands=(command,))
-    return Identification("text" if head else "empty", why=READS if head else "there is no octet") if re.fullmatch(
-        rb"[\t\n\r\x20-\x7e]*", head) else None
-
-
-def frames(recording: Recording, head: bytes) -> Optional[Identification]:
-    """TM and TC frames, by each sign in turn."""
+            return Identification(what, commands=(command,)) if command else Identification(what, why=READS)
     known = list(islice(right_frames(head), PAIRS))
     layout = by_markers(head) or by_distance(head, control(head, known))
-    if layout and not layout.length:
-        found = other(head[layout.at:], layout.distance)
-        return Identification(CADUS, why=found.what if found else "what is between them isn't plain, also derandomised")
     found = None if layout else cltus(recording, head) or tc(recording, known, head, True)
-    if not found and not layout:
-        layout = by_distance(head, headers(head[:HEADERS], bytes(5))) or by_distance(
-            head, headers(head[:HEADERS], TM_SEQUENCE), TM_SEQUENCE)
-    return found or (tm(recording, head, layout) if layout else tc(recording, known, head, False))
+    for mask in b"", TM_SEQUENCE:
+        layout = layout or (None if found else by_distance(head, headers(head, mask), mask))
+    found = tm(recording, head, layout) if layout else found or tc(recording, known, head, False) or other(head)
+    why = "there are no sync markers, start sequences, error control fields or headers that go on"
+    if recording.tried > TRIED:
+        found, why = None, f"stopped after {TRIED} places at which a frame might begin"
+    return found or Identification("unknown", why=why)
 
 
 def other(head: bytes, distance: int = 0) -> Optional[Identification]:
-    """Frames of AOS and USLP from the first octet on, by version, and counts that rise or the stated length."""
+    """Frames of AOS (version 1) and USLP (version 12) from the first octet on, by counts that rise or lengths."""
     for apart in range(distance or SHORTEST, (distance or APART) + 1):
         rows = [head[at:at + 6] for at in range(0, min(len(head), 32 * apart) - 5, apart)]
         if len(rows) > 4 and len({row[0] for row in rows}) == 1:
-            rises = sum((there[4] - here[4]) & 255 == 1 for here, there in zip(rows, rows[1:]))
-            if rows[0][0] >> 6 == 1 and rises > 2:
-                return Identification(f"AOS transfer frames (version 1), {apart} octets apart", why=READS)
-            if rows[0][0] >> 4 == 12 and all(distance or row[4] << 8 | row[5] == apart - 1 for row in rows):
-                return Identification("USLP transfer frames (version 12)", why=READS)
+            version, rises = rows[0][0], sum((there[4] - here[4]) & 255 == 1 for here, there in zip(rows, rows[1:]))
+            uslp = version >> 4 == 12 and all(distance or row[4] << 8 | row[5] == apart - 1 for row in rows)
+            if uslp or version >> 6 == 1 and rises > 2:
+                return Identification(f"{'USLP' if uslp else 'AOS'} transfer frames, {apart} octets apart", why=READS)
     return None
+
+
+class Layout(NamedTuple):
+    """How frames lie. With a length of 0 there are sync markers, and what is behind them isn't plain."""
+
+    at: int                                               # the first place
+    distance: int                                         # from one to the next
+    marked: bool = False                                  # whether sync markers are before them
+    mask: bytes = b""                                     # the sequence on them
+    length: int = 0
+    some: Sequence[int] = ()                              # of which spacecraft they are
+    fecf: bool = False
+
+
+def layout_of(head: bytes, places: Sequence[int], it: Layout) -> Optional[Layout]:
+    """The layout, with what frames at these places show: their length by the error control field, or else by their
+    packets. None where that isn't sure, or they state their length, as space packets and TC frames do."""
+    ends = ((at, at + it.distance - len(MARKER) * it.marked) for at in places)
+    units = [unmasked(head[at:end], it.mask) for at, end in ends if end <= len(head)]
+    length, some = fitting(units[:48]), crafts(units)
+    own, fecf = [unit for unit in units if craft_of(unit) in some], length > 0
+    if not fecf and len(own) >= max(5, 0.75 * len(units)) and risen(own) >= max(5, 0.3 * len(own)):
+        length = data_end(own[:500])
+    others = sum(length in (7 + (unit[4] << 8 | unit[5]), stated(unit, 0, True)) for unit in units)
+    return it._replace(length=length, some=some, fecf=fecf) if length and some and 2 * others < len(units) else None
+
+
+def by_markers(head: bytes) -> Optional[Layout]:
+    """By sync markers at one distance, and frames behind them."""
+    places = [it.end() for it in islice(re.finditer(re.escape(MARKER), head), PAIRS)]
+    for distance, number in Counter(there - here for here, there in zip(places, places[1:])).most_common(1):
+        if number >= max(2, len(places) // 4) and distance >= SHORTEST + len(MARKER):
+            some = [Layout(places[0], distance, True, mask) for mask in (b"", TM_SEQUENCE)]
+            return layout_of(head, places, some[0]) or layout_of(head, places, some[1]) or some[0]
+    return None
+
+
+def by_distance(head: bytes, seen: Seen, mask: bytes = b"") -> Optional[Layout]:
+    """By the distances, and the places in these, at which frames seem to lie."""
+    found = []
+    for distance, phase in sorted((it for it in seen if seen[it] > 1), key=lambda it: -seen[it] * it[0])[:8]:
+        rows = {at: unmasked(head[at:at + 6], mask) for at in range(phase, len(head) - 6, distance)}
+        some = crafts([*rows.values()])
+        own = [at for at in rows if craft_of(rows[at]) in some]
+        if len(own) > 2:
+            found.append(layout_of(head, range(own[0], own[-1] + 1, distance), Layout(own[0], distance, False, mask)))
+    return max(filter(None, found), key=lambda it: it.fecf, default=None)
+
+
+def pieces_of(recording: Recording, it: Layout) -> List[range]:
+    """The pieces in which frames lie, by error control fields, or else by headers; in a large recording, at places."""
+    mask = it.mask or bytes(5)
+    own = {craft ^ craft_of(mask) for craft in it.some}   # as they stand
+    right = crc_hqx(it.mask[:it.length], 0)               # the register, with what the mask adds to it
+
+    def sound(octets: bytes, at: int) -> int:
+        frame, before = octets[at:at + it.length], max(0, at - it.distance)
+        return it.length * (len(frame) == it.length and craft_of(frame) in own and (
+            crc_hqx(frame, 0xFFFF) == right if it.fecf else
+            (frame[4] ^ mask[4]) & 0x58 >= 0x18 and (not at or frame[:4] != octets[before:before + 4])))
+
+    found: List[range] = []
+    for at in range(0, recording.size, max(BLOCK, recording.size // 8)):
+        at += (found[-1].start - at) % it.distance if found else 0
+        for piece in walked(recording, recording.read(at, BLOCK), bytes({craft >> 4 for craft in own}),
+                            1 if it.fecf else 3, sound, lambda octets, at: it.distance):
+            goes_on = found and (at + piece.start - found[-1].start) % it.distance == 0
+            found.append(range(found.pop().start if goes_on else at + piece.start, at + piece.stop))
+    begin, end = (found[0].start, found.pop(0).stop) if found else (it.at, it.at)
+    while begin >= it.distance and craft_of(unmasked(recording.read(begin - it.distance, 2), it.mask)) in it.some:
+        begin -= it.distance                              # frames with bit errors
+    return [range(begin, end), *found]
+
+
+def tm(recording: Recording, head: bytes, it: Layout) -> Identification:
+    """What a recording of frames that lie so is."""
+    if not it.length:
+        found = other(head[it.at:], it.distance)
+        return Identification(CADUS, why=found.what if found else "what is between them isn't plain, also derandomised")
+    if it.marked:
+        what, pieces = CADUS, [range(recording.size)]
+        places = [at.end() for at in re.finditer(re.escape(MARKER), head)]
+        lines = [f"sync markers {it.distance} octets apart, {'' if it.mask else 'not '}randomised"]
+    else:
+        what = f"{'randomised ' * bool(it.mask)}TM transfer frames of {it.length} octets"
+        what += ", with other octets between them" * (it.distance > it.length)
+        lines, pieces = [], pieces_of(recording, it)
+        places = [at for piece in pieces for at in piece[:BLOCK:it.distance]]
+    read = (recording.read(at, it.length) for at in places[:max(300, BLOCK // it.length)])
+    frames = [unmasked(frame, it.mask) for frame in read if len(frame) == it.length]
+    some, begin = crafts(frames) or it.some, pieces[0].start
+    own = [frame for frame in frames if craft_of(frame) in some]
+    opaque = sum(frame[4] > 63 for frame in own)          # by the secondary header flag, or the synchronisation flag
+    lines += [*about(frames, craft_of, some, it.fecf, (recording.size - begin) // it.distance),
+              f"operational control field frames {sum(frame[1] & 1 for frame in own)}",
+              *[f"secondary header or access data frames {opaque}, opaque for sllink"] * (20 * opaque > len(frames))]
+    why = "less than half of it are such frames" * (2 * sum(map(len, pieces)) < recording.size - 2 * it.distance)
+    lead, trail = 0, it.distance - it.length - len(MARKER) * it.marked
+    begin, lead, trail = (0, begin, trail - begin) if begin <= trail else (begin, 0, trail)
+    options = f" --marker {MARKER.hex()}" * it.marked + f" --lead {lead}" * (lead > 0)
+    options += f" --trail {trail}" * (trail > 0) + " --derandomise" * bool(it.mask)
+    words = [["tm", "--scid", str(craft), "--tm-length", str(it.length), *["--tm-fecf"] * it.fecf] for craft in some]
+    return frames_of(recording.name, what, lines, words, why, pieces, begin,
+                     f"sllink-frames --length {it.length}{options}" * bool(options))
+
+
+def cut(octets: bytes) -> Iterator[bytes]:
+    """Octets cut by the lengths that frames state."""
+    at = 0
+    while length := stated(octets, at):
+        yield octets[at:at + length]
+        at += length
+
+
+def tc(recording: Recording, known: Sequence[Tuple[int, int]], head: bytes, fecf: bool) -> Optional[Identification]:
+    """TC frames: with error control fields, by right ones; else by five lengths that lead on, or three to the end."""
+    octets = recording.read(0, WHOLE)
+    places = [at for at, length in known if stated(head, at, True) == length] if fecf else [
+        at for at in range(min(len(head), 1 << 16)) if (length := stated(head, at, True))
+        and stated(head, at + length, True) and tc_craft(head, at + length) == tc_craft(head, at)]
+    craft, number = Counter(tc_craft(head, at) for at in places).most_common(1)[0] if places else (0, 0)
+
+    def sound(octets: bytes, at: int) -> int:
+        length = stated(octets, at, True)
+        return length * (length > 0 and tc_craft(octets, at) == craft and (
+            not fecf or right_fields([octets[at:at + length]]) > 0))
+
+    pieces = walked(recording, octets, bytes(craft >> 8 | flags for flags in (0, 0x20, 0x30)), 1 if fecf else 5, sound,
+                    stated) if number > 2 - (not fecf) else []
+    frames = list(islice((it for piece in pieces for it in cut(octets[piece.start:piece.stop])), 20_000))
+    if len(frames) < 3 or 2 * sum(map(len, pieces)) <= len(octets) or tc_field(frames) is (not fecf):
+        return None
+    why = f"frames are looked at in the first {WHOLE} octets alone" * (recording.size > WHOLE)
+    return answer(recording.name, "TC transfer frames", [], frames, why, pieces)
+
+
+def answer(name: str, what: str, lines: List[str], frames: Sequence[bytes], why: str = "",
+           pieces: Sequence[range] = (range(0),), program: str = "") -> Identification:
+    """What is known of frames, and the words with which the program reads them, for each spacecraft."""
+    fecf, numbers = tc_field(frames), Counter(map(tc_craft, frames))
+    main = [craft for craft, number in numbers.most_common(20) if number >= max(2, 0.05 * len(frames))] or [*numbers]
+    why = why if fecf is not None else "it isn't plain whether error control fields end the frames, or packets do"
+    return frames_of(name, what, lines + about(frames, tc_craft, main, fecf), [
+        words_of(frames, craft, fecf is True) for craft in main], why, pieces, pieces[0].start, program)
+
+
+def words_of(frames: Sequence[bytes], craft: int, fecf: bool) -> List[str]:
+    """The words with which a spacecraft's frames are read: channels without segment headers, and initial V(R)."""
+    sound = [it[:-2] if fecf else it for it in frames if tc_craft(it) == craft and stated(it, 0, True)
+             and not (fecf and not right_fields([it]))]
+    plain, starts = [], []
+    for vc in sorted({frame[2] >> 2 for frame in sound}):
+        own = [frame for frame in sound if frame[2] >> 2 == vc]
+        units = [frame[5:] for frame in own if not frame[0] & 0x10]
+        plain += [str(vc)] * (sum(map(chained, units)) > 4 * sum(chained(it[1:]) for it in units if it[:1] >= b"\xc0"))
+        starts += [(vc, frame[4]) for frame in own if not frame[0] & 0x30][:1]
+    words = ["tc", "--scid", str(craft), *["--tc-fecf"] * fecf, *["--plain", ",".join(plain)] * bool(plain)]
+    return words + ["--vr-of", ",".join(f"{vc}:{start}" for vc, start in starts)] * any(start for _, start in starts)
+
+
+def cltus(recording: Recording, head: bytes) -> Optional[Identification]:
+    """Start sequences, and code blocks of right parity behind them."""
+    units: List[bytes] = []
+    end = covered = 0
+    for place in re.finditer(re.escape(START), head):
+        at = place.end()
+        while at > end and head[at:at + 8] != TAIL and is_block(head[at:at + 8]):
+            at += 8
+        if at > place.end():
+            end, covered = at, covered + at - place.start()
+            units.append(b"".join(head[it:it + 7] for it in range(place.end(), at, 8)))
+    if covered < max(16, len(head) // 8):
+        return None
+    for mask, program in (b"", "sllink-frames --cltu"), (TC_SEQUENCE, "sllink-frames --cltu --derandomise"):
+        frames = [frame for unit in units for frame in takewhile(lambda it: it[0] < 64, cut(unmasked(unit, mask)))]
+        if len(frames) >= 0.8 * len(units) and Counter(map(tc_craft, frames)).most_common(1)[0][1] > len(frames) // 2:
+            lines = [f"start sequences (EB90) {len(units)}, {'' if mask else 'not '}randomised"]
+            return answer(recording.name, "CLTUs: TC transfer frames in code blocks", lines, frames, program=program)
+    return Identification("CLTUs", why="no TC frames are in them, also derandomised")
+
+
+def is_block(octets: bytes) -> bool:
+    """Whether these are a code block: seven octets and the inverted remainder of their division (231.0-B)."""
+    number = int.from_bytes(octets, "big") >> 1 ^ 127
+    for bit in range(62, 6, -1):
+        number ^= 0b11000101 << bit - 7 if number >> bit & 1 else 0
+    return len(octets) == 8 and number == 0

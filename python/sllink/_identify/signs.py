@@ -1,15 +1,58 @@
 """What octets show of frames: error control fields, counts that rise, packets that go on, lengths of TC frames."""
 
+import os
+import re
 from array import array
 from binascii import crc_hqx
 from collections import Counter as counter
 from itertools import accumulate
-from typing import Counter, Dict, Iterator, List, Optional, Sequence, Tuple
+from operator import xor
+from typing import Callable, Counter, Dict, Iterator, List, Optional, Sequence, Tuple
 
 SHORTEST, LONGEST, APART = 32, 2048, 2560                 # octets of a TM frame; from one to the next, at most
-PERIOD = 32767                                            # octets of 0 after which a register is the same again
-PAIRS, NEAR = 100_000, 8                                  # that are looked at; places that look alike
-Seen = Counter[Tuple[int, int]]                          # how often frames seem to lie at a distance, at a place in it
+HEADERS, PAIRS, NEAR, TRIED = 1 << 16, 100_000, 8, 200_000         # octets; pairs; places that agree; that are tried
+Seen = Counter[Tuple[int, int]]                           # how often frames seem to lie at a distance, at a place in it
+
+
+class Recording:
+    """A file of which parts are read, as far as it has them. It counts the places that are tried."""
+
+    def __init__(self, name: str, file: int) -> None:
+        self.name, self.size, self.tried, self._file = name, os.fstat(file).st_size, 0, file
+
+    def read(self, offset: int, length: int) -> bytes:
+        return os.pread(self._file, length, offset)
+
+
+def walked(recording: Recording, octets: bytes, firsts: bytes, number: int, sound: Callable[[bytes, int], int],
+           step: Callable[[bytes, int], int]) -> List[range]:
+    """The pieces in which frames lie one after another. A frame begins with one of `firsts`; `sound` gives its length,
+    0 where none is, and `step` how far the next one is, 0 if nothing says so. So many, or three that reach the end,
+    begin a piece. Where none is sound, but steps lead to one, and no piece begins before it, nothing is astray."""
+    def search(at: int, end: int) -> Optional[int]:
+        for place in re.compile(b"[%s]" % re.escape(firsts)).finditer(octets, at, end):
+            recording.tried += 1
+            if recording.tried > TRIED:
+                break
+            led, on = 0, place.start()
+            while led < number and sound(octets, on):
+                led, on = led + 1, on + step(octets, on)
+            if led == number or led > 2 and on >= len(octets):
+                return place.start()
+        return None
+
+    found: List[range] = []
+    last, on = -1, len(octets)
+    while (at := search(last + 1, on)) is not None or on < len(octets):
+        if at is not None:
+            found.append(range(at, at))
+            on = at
+        while length := sound(octets, on):
+            found[-1] = range(found[-1].start, on + length)
+            last, on = on, on + step(octets, on)
+        while on < len(octets) and not sound(octets, on):
+            on += step(octets, on) or len(octets)
+    return found
 
 
 def sequence(*taps: int) -> bytes:
@@ -25,8 +68,7 @@ TM_SEQUENCE, TC_SEQUENCE = sequence(1, 3, 5, 8), sequence(2, 4, 5, 6, 7, 8)     
 
 def unmasked(octets: bytes, mask: bytes) -> bytes:
     """The octets without a randomiser's sequence, or as they are."""
-    number = int.from_bytes(octets, "big") ^ int.from_bytes(mask[:len(octets)], "big")
-    return number.to_bytes(len(octets), "big") if mask else octets
+    return bytes(map(xor, octets, mask)) if mask else octets
 
 
 def right_frames(octets: bytes) -> Iterator[Tuple[int, int]]:
@@ -36,16 +78,16 @@ def right_frames(octets: bytes) -> Iterator[Tuple[int, int]]:
     begun: Dict[int, List[int]] = {}
     ages = array("l", [0]) * 65536                        # how many octets of 0 lead to a register, from 1 or 3 on
     for register in 1, 3:
-        for age in range(PERIOD):
+        for age in range(32767):
             ages[register], register = age, crc_hqx(b"\0", register)
     register = 0
     for at, octet in enumerate(octets + b"\xff"):
-        for begin in begun.get((ages[register] - at) % PERIOD, ()) if register else ():
+        for begin in begun.get((ages[register] - at) % 32767, ()) if register else ():
             if 6 < at - begin <= LONGEST and not crc_hqx(octets[begin:at], 0xFFFF):
                 yield begin, at - begin
         if octet < 64:
-            key = (ages[register ^ 0xFFFF] - at) % PERIOD
-            begun[key] = [*begun[key][1 - NEAR:], at] if key in begun else [at]
+            key = (ages[register ^ 0xFFFF] - at) % 32767
+            begun[key] = [*begun.get(key, ()), at][-NEAR:]
         register = crc_hqx(octets[at:at + 1], register)
 
 
@@ -54,13 +96,22 @@ def right_fields(frames: Sequence[bytes]) -> int:
 
 
 def fitting(units: Sequence[bytes]) -> int:
-    """The length at which the error control field is right in most of these units, else 0; the shortest of several, as
-    octets of 0 behind a frame leave it right."""
+    """The length at which most of these units have a right field, or 0; the least, as zeros behind leave it right."""
     right = counter(at for unit in units for at, register in enumerate(accumulate(
         unit[:LONGEST], lambda register, octet: crc_hqx(bytes([octet]), register), initial=0xFFFF))
         if not register and at >= SHORTEST)
     length, number = max(right.items(), key=lambda it: (it[1], -it[0]), default=(0, 0))
     return length if number >= max(2, len(units) // 2) else 0
+
+
+def about(frames: Sequence[bytes], whose: Callable[[bytes], int], main: Sequence[int], fecf: Optional[bool],
+          number: int = 0) -> List[str]:
+    """The lines on frames, of this number at least: of which spacecraft they are, and their error control fields."""
+    numbers, known = counter(map(whose, frames)), {True: "yes", False: "no", None: "unknown"}[fecf]
+    rest = len(frames) - sum(numbers[craft] for craft in main)
+    return [f"frames {len(frames)}" + f" looked at, of about {number}" * (number > len(frames)),
+            *(f"spacecraft {craft} frames {numbers[craft]}" for craft in main), *[f"other headers {rest}"] * (rest > 0),
+            f"error control field {known} right {right_fields(frames)}"]
 
 
 def craft_of(octets: bytes, at: int = 0) -> int:
@@ -88,31 +139,26 @@ def crafts(frames: Sequence[bytes]) -> List[int]:
 
 def control(octets: bytes, known: Sequence[Tuple[int, int]]) -> Seen:
     """Where frames seem to lie: right ones, of one length and spacecraft, one after another."""
-    found: Seen = counter()
-    last: Dict[Tuple[int, int], int] = {}
+    places: Dict[Tuple[int, int], List[int]] = {}
     for at, length in sorted(known):
-        distance = at - last.get((length, craft_of(octets, at)), at)
-        if SHORTEST <= length <= distance <= APART:
-            found[distance, at % distance] += 1
-        last[length, craft_of(octets, at)] = at
-    return found
+        places.setdefault((length, craft_of(octets, at)), []).append(at)
+    return counter((there - here, there % (there - here)) for (length, _), own in places.items()
+                   for here, there in zip(own, own[1:]) if SHORTEST <= length <= there - here <= APART)
 
 
 def headers(octets: bytes, mask: bytes) -> Seen:
     """Where frames seem to lie: a header has the next count of an earlier one of its spacecraft, or virtual channel."""
     found: Seen = counter()
     places: Dict[int, List[int]] = {}
-    for at in range(len(octets) - 4):
-        if (octets[at] ^ mask[0]) >> 6 or (octets[at + 4] ^ mask[4]) & 0x18 != 0x18:
+    mask = mask or bytes(5)
+    for at in range(min(len(octets), HEADERS) - 4):
+        if octets[at] ^ mask[0] > 63 or (octets[at + 4] ^ mask[4]) & 0x18 != 0x18 or len(found) > PAIRS:
             continue
-        first, second, mc, vcc = (one ^ two for one, two in zip(octets[at:at + 4], mask))
+        first, second, mc, vcc = map(xor, octets[at:at + 4], mask)
         for key in first << 16 | (second & 0xF0) << 8 | mc, 1 << 24 | first << 16 | (second & 0xFE) << 8 | vcc:
-            for place in places.get(key - 1 if key & 255 else key + 255, ()):
-                if SHORTEST <= at - place <= APART:
-                    found[at - place, at % (at - place)] += 1
-            places[key] = [*places.get(key, ())[1 - NEAR:], at]
-        if len(found) > PAIRS:
-            break
+            found.update((at - place, at % (at - place)) for place in places.get(
+                key - 1 if key & 255 else key + 255, ()) if SHORTEST <= at - place <= APART)
+            places[key] = [*places.get(key, ()), at][-NEAR:]
     return found
 
 
@@ -122,12 +168,10 @@ def data_end(units: Sequence[bytes]) -> int:
     begun: Dict[int, List[bytes]] = {}
     for unit in units:
         channel, pointer = unit[0] << 8 | unit[1] & 0xFE, (unit[4] & 7) << 8 | unit[5]
-        run = begun.pop(channel, [])
-        if run and (unit[3] - run[-1][3]) & 255 == 1 and pointer != 2046 and unit[4] & 0xD8 == 0x18:
-            runs += [[*run, unit]] * (pointer < 2046)
-            begun[channel] = [*run, unit] if pointer == 2047 else [unit]
-        elif pointer < 2046:
-            begun[channel] = [unit]
+        run = begun.get(channel, [])
+        goes_on = run != [] and (unit[3] - run[-1][3]) & 255 == 1 and pointer != 2046 and unit[4] & 0xD8 == 0x18
+        runs += [[*run, unit]] * (goes_on and pointer < 2046)
+        begun[channel] = [unit] if pointer < 2046 else [*run, unit] * goes_on
     for end in range(min(map(len, units), default=0), SHORTEST - 1, -1) if len(runs) > 3 else ():
         if sum(joined(run, end) for run in runs[:4]) > 1 and sum(joined(it, end) for it in runs) >= 0.6 * len(runs):
             return end
@@ -136,9 +180,8 @@ def data_end(units: Sequence[bytes]) -> int:
 
 def joined(run: Sequence[bytes], end: int) -> bool:
     """Whether packets lie end to end from the first one of a frame up to the first one of a later frame."""
-    (first, *_), pointers = run, [(unit[4] & 7) << 8 | unit[5] for unit in run]
-    data = b"".join(unit[6:end - 4 * (unit[1] & 1)] for unit in run[:-1]) + run[-1][6:6 + pointers[-1]]
-    return chained(data[pointers[0]:])
+    first, last = ((unit[4] & 7) << 8 | unit[5] for unit in (run[0], run[-1]))
+    return chained((b"".join(it[6:end - 4 * (it[1] & 1)] for it in run[:-1]) + run[-1][6:6 + last])[first:])
 
 
 def chained(octets: bytes) -> bool:
@@ -149,28 +192,22 @@ def chained(octets: bytes) -> bool:
     return at == len(octets) > 0
 
 
-def stated(octets: bytes, at: int) -> int:
-    """The length that a TC frame here states, 0 where it isn't whole."""
+def stated(octets: bytes, at: int, strict: bool = False) -> int:
+    """The length that a TC frame here states, 0 where it isn't whole, or has not, if that is asked, a frame's version,
+    spare bits and flags."""
     length = ((octets[at + 2] & 3) << 8 | octets[at + 3]) + 1 if at + 5 <= len(octets) else 0
-    return length if 5 <= length <= len(octets) - at else 0
-
-
-def tc_length(octets: bytes, at: int = 0) -> int:
-    """The same, where version, spare bits and flags are those of a frame, too."""
-    length = stated(octets, at)
-    return length if length > 5 and not octets[at] & 0xCC and octets[at] & 0x30 != 0x10 else 0
+    odd = strict and length > 0 and (length == 5 or octets[at] & 0xCC > 0 or octets[at] & 0x30 == 0x10)
+    return 0 if odd or not 5 <= length <= len(octets) - at else length
 
 
 def tc_craft(octets: bytes, at: int = 0) -> int:
     return (octets[at] & 3) << 8 | octets[at + 1]
 
 
-def tc_field(frames: Sequence[bytes]) -> Tuple[Optional[bool], str]:
-    """Whether TC frames have the error control field, as far as that is sure, and else why not."""
+def tc_field(frames: Sequence[bytes]) -> Optional[bool]:
+    """Whether TC frames have the error control field, or packets end with them; None if that isn't sure."""
     right, (bare, behind) = right_fields(frames), (sum(
         any(chained(it[at:len(it) - end]) for at in (5, 6)) for it in frames[:300]) for end in (0, 2))
     if right >= 2 and 2 * right >= len(frames) and bare <= behind + 1:
-        return True, ""
-    if right <= max(1, 0.03 * len(frames)) and bare > max(1, 2 * behind):
-        return False, ""
-    return None, f"the error control field is right in {right} of {len(frames)} frames, and {bare} end with a packet"
+        return True
+    return False if right <= max(1, 0.03 * len(frames)) and bare > max(1, 2 * behind) else None

@@ -146,10 +146,10 @@ def tm(recording: Recording, head: bytes, it: Layout) -> Identification:
     frames = [unmasked(frame, it.mask) for frame in read if len(frame) == it.length]
     some, begin = crafts(frames) or it.some, pieces[0].start
     own = [frame for frame in frames if craft_of(frame) in some]
-    opaque = sum(frame[4] > 63 for frame in own)          # by the secondary header flag, or the synchronisation flag
+    opaque = sum(frame[4] > 63 for frame in own)
     lines += [*about(frames, craft_of, some, it.fecf, (recording.size - begin) // it.distance),
               f"operational control field frames {sum(frame[1] & 1 for frame in own)}",
-              *[f"secondary header or access data frames {opaque}, opaque for sllink"] * (20 * opaque > len(frames))]
+              *[f"secondary header or synchronisation flag frames {opaque}, opaque"] * (20 * opaque > len(frames))]
     why = "less than half of it are such frames" * (2 * sum(map(len, pieces)) < recording.size - 2 * it.distance)
     lead, trail = 0, it.distance - it.length - len(MARKER) * it.marked
     begin, lead, trail = (0, begin, trail - begin) if begin <= trail else (begin, 0, trail)

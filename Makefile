@@ -48,7 +48,7 @@ LIB = $(PREFIX)/lib
 PROGRAM = crates/sllink/out/sllink
 # The crates of the programs beside sllink. That of sllink_x is installed as sllink-x: the one that $SLLINK_X names, else
 # the one that `rt run` leaves.
-PROGRAMS = sllink_compare sllink_frames
+PROGRAMS = sllink_compare sllink_frames sllink_merge
 built = $(or $($(shell echo $(1) | tr a-z A-Z)),crates/$(1)/out/$(1))
 BESIDE = $(foreach it,$(PROGRAMS),"$(call built,$(it))")
 BUILD = for it in sllink $(PROGRAMS); do (cd crates/$$it && $(RT) run -- --version) || exit 1; done

@@ -1,0 +1,232 @@
+//! Recordings merged one after another.
+ghost use Rattle.std.specs.Prelude.{◌≡◌, ◌≢◌, ◌&&◌, ◌∷◌, [], IfErr, IfOk, OnOk};
+ghost use Rattle.sllink_merge.specs.Run.{IsMergedBy, IsRefusedFor, MergeAllTo, MergesTo};
+ghost use Rattle.sllink_merge.specs.Run.{is_sure, octets_of};
+
+use crate::command_line::Link;
+use crate::totals::packets_of;
+use sl_merge::{
+    FateCounts, Order, Unordered, count_fates, find_order, is_merge_tm, merged_recording,
+};
+use std::alloc::{AllocError, Global};
+use std::hash::BuildHasher;
+use thiserror::Error;
+
+/// A recording.
+#[derive(Clone, Copy, Debug)]
+pub struct Recording<'a> {
+    /// Its name, as it stands in a line.
+    pub name: &'a str,
+    pub octets: &'a [u8],
+    /// How many packets it delivers.
+    pub packets: u64,
+}
+
+/// What became of two recordings that were merged.
+#[derive(Clone, Copy, Debug)]
+pub struct Turn {
+    /// How many frames have which fate.
+    pub counts: FateCounts,
+    /// Stretches in which 256 frames or more of a channel were lost in a row, in the likeliest order.
+    pub outages: u64,
+    /// Stretches whose order the counts leave open.
+    pub open: u64,
+    /// Stretches of which the frames of one recording are left out.
+    pub undecided: u64,
+    /// Choices among equal idle frames.
+    pub idle: u64,
+    /// How many packets the merge delivers.
+    pub packets: u64,
+}
+
+/// What recordings were merged to.
+#[derive(Drop)]
+pub struct Merge {
+    pub octets: Vec<u8>,
+    /// Whether each frame that was left out is skipped or a repeat, and no order is a guess.
+    pub is_sure: bool,
+    /// What became of the first two, and then of each further one and what came before it.
+    pub turns: Vec<Turn>,
+}
+
+/// Why two recordings aren't merged.
+#[derive(Clone, Copy, Debug, PartialEq, Eq, Error)]
+pub enum Unmerged {
+    /// Memory was refused.
+    #[error("memory")]
+    Memory,
+    /// No order was found.
+    #[error("{0}")]
+    Unordered(Unordered),
+    /// What was found is no merge.
+    #[error("no merge that was found passes the check; an outage of 256 frames or a multiple looks so")]
+    Unchecked,
+}
+
+impl From<AllocError> for Unmerged {
+    fn from(_: AllocError) -> Unmerged {
+        Unmerged::Memory
+    }
+}
+
+impl From<Unordered> for Unmerged {
+    fn from(why: Unordered) -> Unmerged {
+        match why {
+            Unordered::Memory => Unmerged::Memory,
+            why => Unmerged::Unordered(why),
+        }
+    }
+}
+
+/// Two recordings that aren't merged, by their names, and why.
+#[derive(Clone, Copy, Debug)]
+pub struct Refused<'a> {
+    pub first: &'a str,
+    pub second: &'a str,
+    pub why: Unmerged,
+}
+
+/// How a line calls what was merged so far.
+pub const SO_FAR: &str = "merge so far";
+
+/// Merges the first two recordings, and then each further one with what came before it.
+pub fn merge_all<'a, S: BuildHasher + Copy>(
+    alloc: Global,
+    hasher: S,
+    link: &Link,
+    first: &Recording<'a>,
+    second: &Recording<'a>,
+    others: &[Recording<'a>],
+) -> Result<Merge, Refused<'a>>
+    ensures { IfOk result (λ merge. MergeAllTo link.now first.now.octets.now
+        (second.now.octets.now ∷ octets_of others.now) merge.is_sure merge.octets.items) }
+{
+    let mut merge = match begin(alloc, hasher, link, first.octets, second.octets) {
+        Ok(merge) => merge,
+        Err(why) => {
+            return Err(Refused {
+                first: first.name,
+                second: second.name,
+                why,
+            });
+        }
+    };
+    for other in others {
+        if let Err(why) = add(alloc, hasher, link, &mut merge, other.octets) {
+            return Err(Refused {
+                first: SO_FAR,
+                second: other.name,
+                why,
+            });
+        }
+    }
+    Ok(merge)
+}
+
+// Merges two recordings.
+fn begin<S: BuildHasher + Copy>(
+    alloc: Global,
+    hasher: S,
+    link: &Link,
+    one: &[u8],
+    other: &[u8],
+) -> Result<Merge, Unmerged>
+    ensures { IfOk result (λ merge. MergeAllTo link.now one.now (other.now ∷ []) merge.is_sure
+        merge.octets.items) }
+{
+    let (octets, turn) = merge_two(alloc, hasher, link, one, other)?;
+    let mut turns = Vec::new(alloc);
+    let is_sure = is_sure(&turn);
+    match turns.push(turn) {
+        Ok(()) => Ok(Merge {
+            octets,
+            is_sure,
+            turns,
+        }),
+        Err(_) => Err(Unmerged::Memory),
+    }
+}
+
+// Merges what came before with a further recording.
+fn add<S: BuildHasher + Copy>(
+    alloc: Global,
+    hasher: S,
+    link: &Link,
+    merge: &mut Merge,
+    other: &[u8],
+) -> Result<(), Unmerged>
+    ensures { OnOk result ((turn : Turn)
+        × (merge.new.is_sure ≡ (merge.old.is_sure && is_sure turn))
+        × MergesTo link.now merge.old.octets.items other.now merge.new.octets.items turn) }
+{
+    let (octets, turn) = merge_two(alloc, hasher, link, merge.octets.as_slice(), other)?;
+    if merge.turns.push(turn).is_err() {
+        return Err(Unmerged::Memory);
+    }
+    merge.is_sure = merge.is_sure && is_sure(&turn);
+    merge.octets = octets;
+    Ok(())
+}
+
+// Merges two recordings by the order that is found of their frames.
+fn merge_two<S: BuildHasher + Copy>(
+    alloc: Global,
+    hasher: S,
+    link: &Link,
+    one: &[u8],
+    other: &[u8],
+) -> Result<(Vec<u8>, Turn), Unmerged>
+    ensures { IfOk result (λ merged. MergesTo link.now one.now other.now merged.0.items merged.1) }
+{
+    let order = find_order(alloc, hasher, &link.shape, link.spacecraft, one, other)?;
+    merge_by(alloc, hasher, link, one, other, &order)
+}
+
+// Merges two recordings by this order, if it passes the check.
+fn merge_by<S: BuildHasher + Copy>(
+    alloc: Global,
+    hasher: S,
+    link: &Link,
+    one: &[u8],
+    other: &[u8],
+    order: &Order,
+) -> Result<(Vec<u8>, Turn), Unmerged>
+    ensures merged { IfOk result (λ merged. IsMergedBy link.now one.now other.now
+        order.now.fates.items merged.0.items merged.1) }
+    ensures told { IfOk result (λ merged. (merged.1.outages ≡ order.now.outages)
+        × (merged.1.open ≡ order.now.open) × (merged.1.undecided ≡ order.now.undecided)
+        × (merged.1.idle ≡ order.now.idle)) }
+    ensures refused { IfErr result (λ why. why ≢ Unmerged.Memory
+        → IsRefusedFor link.now one.now other.now order.now.fates.items why) }
+{
+    let (shape, spacecraft) = (&link.shape, link.spacecraft);
+    let fates = order.fates.as_slice();
+    if !is_merge_tm(alloc, hasher, shape, spacecraft, one, other, fates)? {
+        return Err(Unmerged::Unchecked);
+    }
+    let counts = count_fates(alloc, shape, spacecraft, one, other, fates)?;
+    if counts.both == 0 {
+        return Err(Unmerged::Unordered(Unordered::Apart));
+    }
+    let octets = merged_recording(alloc, shape, one, other, fates)?;
+    let turn = Turn {
+        counts,
+        outages: order.outages,
+        open: order.open,
+        undecided: order.undecided,
+        idle: order.idle,
+        packets: packets_of(alloc, link, octets.as_slice())?,
+    };
+    Ok((octets, turn))
+}
+
+// Whether each frame that was left out is skipped or a repeat, and no order is a guess.
+fn is_sure(turn: &Turn) -> bool
+    ensures { result ≡ is_sure turn.now }
+{
+    turn.counts.first_left_out.stretches == 0
+        && turn.counts.second_left_out.stretches == 0
+        && turn.outages == 0
+        && turn.open == 0
+        && turn.undecided == 0
+}

@@ -240,6 +240,7 @@ mistakes() {
 }
 
 first=examples/first-station.tm second=examples/second-station.tm third=examples/third-station.tm
+fourth=examples/fourth-station.tm
 uplink=examples/uplink.tc
 tm=(--scid 1 --tm-length 32 --tm-fecf)
 short=(--scid 1 --tm-length 32)

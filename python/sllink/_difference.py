@@ -28,7 +28,7 @@ def compared(kind: str, recordings: Sequence[Recording], options: Sequence[Words
     them has."""
     own = [_text_of(words_of(words)) for words in options]
     with contextlib.ExitStack() as kept:
-        paths = [_path_of(recording, kept) for recording in recordings]
+        paths = [path_of(recording, kept) for recording in recordings]
         words = [kind, *paths, f"--a-options={own[0]}", f"--b-options={own[1]}", f"--allow={ALLOWED}"]
         child = Child(NAME, find_beside(NAME, program), words, os.devnull, (0, 1))
         lines = kept.enter_context(contextlib.closing(child)).lines()
@@ -48,7 +48,7 @@ def _text_of(words: Sequence[str]) -> str:
     return " ".join(words)
 
 
-def _path_of(recording: Recording, kept: contextlib.ExitStack) -> str:
+def path_of(recording: Recording, kept: contextlib.ExitStack) -> str:
     """A path by which the program can open a recording: its own, if it is a file; else that of a temporary file, which
     gets what the recording has from where it stands on."""
     source: Any = require_open(recording)

@@ -90,9 +90,9 @@ def packets(kind: str, recording: Recording, options: Words, *,
 def normal_form(kind: str, recording: Recording, output: Output, options: Words, *, program: Program = None) -> None:
     """Writes the normal form of a recording into a file, which is made anew, or to a binary file object. Where the
     program refuses something or stops while it reads, nothing is written, and a file that is there stays as it is."""
-    _require_output(output)
+    require_output(output)
     with output_of("normalise", kind, recording, options, program) as form:
-        _write_parts(form, output)
+        write_parts(form, output)
 
 
 def station_frames(recording: Recording, output: Output, *, length: Optional[int] = None, marker: bytes = b"",
@@ -102,14 +102,14 @@ def station_frames(recording: Recording, output: Output, *, length: Optional[int
     and what stands around each frame. They go into a file, which is made anew, or to a binary file object. Where the
     program refuses an option nothing is written, and at a fault the beginning is. The program is the one that is named,
     else $SLLINK_FRAMES, else the one beside sllink."""
-    _require_output(output)
+    require_output(output)
     options = {"length": length, "marker": marker.hex() or None, "errors": errors or None, "lead": lead or None,
                "trail": trail or None}
     words = [f"--{name}={value}" for name, value in options.items() if value is not None]
     words += ["--cltu"] * cltu + ["--derandomise"] * derandomise
     name = "sllink-frames"
     with closing(Child(name, find_beside(name, program), words, recording, (0, 1))) as child:
-        _write_parts(child.parts(), output)
+        write_parts(child.parts(), output)
     numbers = re.fullmatch(rb"frames (\d+) wrong-markers (\d+) skipped-octets (\d+) refused-blocks (\d+) "
                            rb"cut-octets (\d+)\n", child.said)
     if not numbers:
@@ -117,12 +117,12 @@ def station_frames(recording: Recording, output: Output, *, length: Optional[int
     return StationTotals(*map(int, numbers.groups()), child.status)
 
 
-def _require_output(output: Output) -> None:
+def require_output(output: Output) -> None:
     if isinstance(output, int):
         raise TypeError(f"what is written goes to a path or a binary file object: {output!r}")
 
 
-def _write_parts(parts: Iterator[bytes], output: Output) -> None:
+def write_parts(parts: Iterator[bytes], output: Output) -> None:
     """Writes what comes; nothing where it ends with a fault before the first part."""
     first = next(parts, b"")
     with ExitStack() as opened:

@@ -177,6 +177,70 @@ class StationTotals(Line):
 
 
 @dataclass(frozen=True)
+class MergeSide(Line):
+    """One of two recordings that sllink-merge merged: its whole frames, those that only it has, those that are left out,
+    by the reason, the octets after the last whole frame, and its packets."""
+
+    __slots__ = ("frames", "only_here", "skipped", "repeats", "left_out", "rest", "packets")
+    frames: int
+    only_here: int
+    skipped: int
+    repeats: int
+    left_out: int
+    rest: int
+    packets: int
+
+    def __str__(self) -> str:
+        return super().__str__().replace("_", "-")
+
+
+@dataclass(frozen=True)
+class MergeTurn(Line):
+    """Two recordings that sllink-merge merged, and what they became: frames, those that both have, packets, stretches in
+    the likeliest order, those whose order is a guess, those of which the frames of one are left out, and choices among
+    equal idle frames. The line has the last seven."""
+
+    __slots__ = ("first", "second", "frames", "in_both", "packets", "outages", "open", "undecided", "idle")
+    first: MergeSide
+    second: MergeSide
+    frames: int
+    in_both: int
+    packets: int
+    outages: int
+    open: int
+    undecided: int
+    idle: int
+
+    def __str__(self) -> str:
+        values = {it.name.replace("_", "-"): getattr(self, it.name) for it in fields(self)[2:]}
+        return f"merge: {named(values)}"
+
+
+@dataclass(frozen=True)
+class Merge(Line):
+    """What sllink-merge says of its merge: a turn for the first two recordings, and one for each further one. `status` is
+    1 where frames are left out whose place isn't known, or the order of some is a guess, and else 0. The line is that of
+    the last turn."""
+
+    __slots__ = ("turns", "status")
+    turns: Tuple[MergeTurn, ...]
+    status: int
+
+    def __str__(self) -> str:
+        return str(self.turns[-1])
+
+    @property
+    def frames(self) -> int:
+        """How many frames were written."""
+        return self.turns[-1].frames
+
+    @property
+    def packets(self) -> int:
+        """How many packets they deliver."""
+        return self.turns[-1].packets
+
+
+@dataclass(frozen=True)
 class Packet(Line):
     """A packet: its virtual channel, its MAP (None in TM), the fields of its primary header, and all its octets."""
 

@@ -38,7 +38,7 @@ from sllink._library import INSTALLED, octets_of  # noqa: E402
 from sllink._program import find_beside  # noqa: E402
 
 EXAMPLES = ROOT / "examples"
-FIRST, SECOND, THIRD = (EXAMPLES / f"{name}-station.tm" for name in ("first", "second", "third"))
+FIRST, SECOND, THIRD, FOURTH = (EXAMPLES / f"{name}-station.tm" for name in ("first", "second", "third", "fourth"))
 PASS, UPLINK = EXAMPLES / "pass.tm", EXAMPLES / "uplink.tc"
 STATION = sllink.Options(scid=1, tm_length=32, tm_fecf=True)
 OF_PASS, OF_UPLINK = sllink.Options(scid=1, tm_length=64), sllink.Options(scid=1, tc_length=16)
@@ -590,6 +590,39 @@ class StationFiles(InAFolder):
         program = self.program("echo frames; exit 1", "[ $1 != --version ] || { echo sllink-frames 1.0; exit; }\n")
         self.refused(3, "^sllink-frames: the counts are missing$", sllink.station_frames, PASS, output, program=program)
         self.assertRaises(TypeError, sllink.station_frames, PASS, 1, length=64)
+
+
+class Merges(InAFolder):
+    """The program sllink-merge."""
+
+    def test_merges(self):
+        """From each sort of recording and to each sort of output."""
+        output = self.folder / "out.tm"
+        with open(FOURTH, "rb") as opened:
+            for recordings, to in (((THIRD, FOURTH), output), ((io.BytesIO(THIRD.read_bytes()), opened), io.BytesIO())):
+                found = sllink.merge("tm", recordings, to, STATION)
+                self.assertEqual(output.read_bytes() if to is output else to.getvalue(), FIRST.read_bytes())
+                self.assertEqual((found.frames, found.packets, found.status, len(found.turns)), (11, 6, 0, 1))
+                turn = found.turns[0]
+                self.assertEqual((turn.first.only_here, turn.second.only_here, turn.in_both), (1, 1, 9))
+                self.assertEqual(str(turn.first), "frames 10 only-here 1 skipped 0 repeats 0 left-out 0 rest 0 packets 4")
+                self.assertRegex(str(turn), "^merge: frames 11 in-both 9 packets 6 outages 0 open 0 undecided 0 idle [0-9]+$")
+                self.assertEqual(pickle.loads(pickle.dumps(found)), found)
+        found = sllink.merge("tm", [SECOND, SECOND, SECOND], output, STATION)
+        self.assertEqual([(it.first.skipped, it.first.rest, it.in_both) for it in found.turns], [(1, 19, 7), (0, 0, 7)])
+
+    def test_refusals(self):
+        """Nothing is written."""
+        output = self.folder / "out.tm"
+        for recordings, options, said in (((FIRST, SECOND), STATION, "^sllink-merge: .*: no frame in common$"),
+                                          ([FIRST], STATION, "^sllink-merge: .*required arguments"),
+                                          ((FIRST, THIRD), ["--scid", "1024"], "^sllink-merge: managed: ")):
+            self.refused(2, said, sllink.merge, "tm", recordings, output, options)
+        self.refused(127, "isn't sllink-merge, .*SLLINK_MERGE says", sllink.merge, "tm", (FIRST, THIRD), output, STATION,
+                     program=sllink.find_program())
+        self.assertFalse(output.exists())
+        program = self.program("echo frames >&2; exit 0", "[ $1 != --version ] || { echo sllink-merge 1.0; exit; }\n")
+        self.refused(3, "^sllink-merge: the counts are missing$", sllink.merge, "tm", [], output, STATION, program=program)
 
 
 class Identifications(InAFolder):

@@ -6,6 +6,7 @@ use Rattle.sl_io.specs.Streams.{StopsWriting, WritesText}
 use Rattle.sl_merge.specs.Counts.{fate_counts}
 use Rattle.sl_merge.specs.Fates.{merged_octets, taken_of}
 use Rattle.sl_merge.specs.Merge.{is_merge}
+use Rattle.sl_merge.specs.declared.counts.FateCounts.{FateCounts}
 use Rattle.sl_merge.specs.declared.fate.Fate.{Fate}
 use Rattle.sl_merge.specs.declared.order.Unordered.TheVariants.{Apart}
 use Rattle.sllink_merge.specs.declared.command_line.Link.{Link}
@@ -16,19 +17,23 @@ use Rattle.sllink_merge.specs.declared.merge.Unmerged.TheVariants.{Memory, Unord
 
 -- ---- two recordings
 
+-- how many frames of two recordings have which fate
+abbrev pub counts_of : Link → List ℕ → List ℕ → List Fate → FateCounts
+counts_of link one other fates = fate_counts link.shape link.spacecraft (taken_of link.shape.len one other fates)
+
 -- These fates tell a merge of two recordings that have a frame in common: this is the merged recording, and so many frames
 -- have which fate.
 pub record IsMergedBy (link : Link) (one other : List ℕ) (fates : List Fate) (merged : List ℕ) (turn : Turn) : Type 0 where
   pub passes : is_merge link.shape link.spacecraft one other fates ≡ true
   pub octets_are : merged ≡ merged_octets link.shape.len one other fates
-  pub counts_are : turn.counts ≡ fate_counts link.shape link.spacecraft (taken_of link.shape.len one other fates)
+  pub counts_are : turn.counts ≡ counts_of link one other fates
   pub common : 0 < turn.counts.both
 
 -- these fates tell no merge, or one of two recordings without a frame in common
 abbrev pub IsRefusedFor : Link → List ℕ → List ℕ → List Fate → Unmerged → Type 0
 IsRefusedFor link one other fates why =
     ((why ≡ Unchecked) × (is_merge link.shape link.spacecraft one other fates ≡ false))
-    ⊎ ((why ≡ Unordered Apart) × ((fate_counts link.shape link.spacecraft (taken_of link.shape.len one other fates)).both ≡ 0))
+    ⊎ ((why ≡ Unordered Apart) × ((counts_of link one other fates).both ≡ 0))
 
 -- some fates do
 pub record MergesTo (link : Link) (one other merged : List ℕ) (turn : Turn) : Type 0 where

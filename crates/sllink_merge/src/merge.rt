@@ -1,12 +1,13 @@
 //! Recordings merged one after another.
-ghost use Rattle.std.specs.Prelude.{◌≡◌, ◌≢◌, ◌&&◌, ◌∷◌, [], IfErr, IfOk, OnOk};
+ghost use Rattle.std.specs.Prelude.{◌≡◌, ◌≢◌, ◌<◌, ◌&&◌, ◌∷◌, [], true, false, IfErr, IfOk, OnOk};
+ghost use Rattle.sl_merge.specs.Merge.{is_merge};
 ghost use Rattle.sllink_merge.specs.Run.{IsMergedBy, IsRefusedFor, MergeAllTo, MergesTo};
-ghost use Rattle.sllink_merge.specs.Run.{is_sure, octets_of};
+ghost use Rattle.sllink_merge.specs.Run.{counts_of, is_sure, octets_of};
 
 use crate::command_line::Link;
 use crate::totals::packets_of;
 use sl_merge::{
-    FateCounts, Order, Unordered, count_fates, find_order, is_merge_tm, merged_recording,
+    Fate, FateCounts, Order, Unordered, count_fates, find_order, is_merge_tm, merged_recording,
 };
 use std::alloc::{AllocError, Global};
 use std::hash::BuildHasher;
@@ -64,6 +65,11 @@ pub enum Unmerged {
 }
 
 impl From<AllocError> for Unmerged {
+    ghost use Rattle.std.specs.Prelude.{◌≡◌};
+    ghost use Rattle.sllink_merge.specs.declared.merge.Unmerged.{Unmerged};
+
+    ghost from_gives = { λ error why. why ≡ Unmerged.Memory };
+
     fn from(_: AllocError) -> Unmerged {
         Unmerged::Memory
     }
@@ -134,7 +140,8 @@ fn begin<S: BuildHasher + Copy>(
     ensures { IfOk result (λ merge. MergeAllTo link.now one.now (other.now ∷ []) merge.is_sure
         merge.octets.items) }
 {
-    let (octets, turn) = merge_two(alloc, hasher, link, one, other)?;
+    let merged = merge_two(alloc, hasher, link, one, other)?;
+    let (octets, turn) = merged;
     let mut turns = Vec::new(alloc);
     let is_sure = is_sure(&turn);
     match turns.push(turn) {
@@ -159,11 +166,13 @@ fn add<S: BuildHasher + Copy>(
         × (merge.new.is_sure ≡ (merge.old.is_sure && is_sure turn))
         × MergesTo link.now merge.old.octets.items other.now merge.new.octets.items turn) }
 {
-    let (octets, turn) = merge_two(alloc, hasher, link, merge.octets.as_slice(), other)?;
+    let merged = merge_two(alloc, hasher, link, merge.octets.as_slice(), other)?;
+    let (octets, turn) = merged;
+    let is_sure = is_sure(&turn);
     if merge.turns.push(turn).is_err() {
         return Err(Unmerged::Memory);
     }
-    merge.is_sure = merge.is_sure && is_sure(&turn);
+    merge.is_sure = merge.is_sure && is_sure;
     merge.octets = octets;
     Ok(())
 }
@@ -199,16 +208,10 @@ fn merge_by<S: BuildHasher + Copy>(
     ensures refused { IfErr result (λ why. why ≢ Unmerged.Memory
         → IsRefusedFor link.now one.now other.now order.now.fates.items why) }
 {
-    let (shape, spacecraft) = (&link.shape, link.spacecraft);
     let fates = order.fates.as_slice();
-    if !is_merge_tm(alloc, hasher, shape, spacecraft, one, other, fates)? {
-        return Err(Unmerged::Unchecked);
-    }
-    let counts = count_fates(alloc, shape, spacecraft, one, other, fates)?;
-    if counts.both == 0 {
-        return Err(Unmerged::Unordered(Unordered::Apart));
-    }
-    let octets = merged_recording(alloc, shape, one, other, fates)?;
+    require_merge(alloc, hasher, link, one, other, fates)?;
+    let counts = count_common(alloc, link, one, other, fates)?;
+    let octets = merged_recording(alloc, &link.shape, one, other, fates)?;
     let turn = Turn {
         counts,
         outages: order.outages,
@@ -218,6 +221,57 @@ fn merge_by<S: BuildHasher + Copy>(
         packets: packets_of(alloc, link, octets.as_slice())?,
     };
     Ok((octets, turn))
+}
+
+// Refuses fates that are no merge.
+fn require_merge<S: BuildHasher + Copy>(
+    alloc: Global,
+    hasher: S,
+    link: &Link,
+    one: &[u8],
+    other: &[u8],
+    fates: &[Fate],
+) -> Result<(), Unmerged>
+    ensures merge { OnOk result (is_merge link.now.shape link.now.spacecraft one.now other.now
+        fates.now ≡ true) }
+    ensures refused { IfErr result (λ why. why ≢ Unmerged.Memory → (why ≡ Unmerged.Unchecked)
+        × (is_merge link.now.shape link.now.spacecraft one.now other.now fates.now ≡ false)) }
+{
+    match is_merge_tm(
+        alloc,
+        hasher,
+        &link.shape,
+        link.spacecraft,
+        one,
+        other,
+        fates,
+    ) {
+        Ok(true) => Ok(()),
+        Ok(false) => Err(Unmerged::Unchecked),
+        Err(_) => Err(Unmerged::Memory),
+    }
+}
+
+// Counts frames by their fates, and refuses recordings without a frame in common.
+fn count_common(
+    alloc: Global,
+    link: &Link,
+    one: &[u8],
+    other: &[u8],
+    fates: &[Fate],
+) -> Result<FateCounts, Unmerged>
+    ensures counted { IfOk result (λ counts.
+        counts ≡ counts_of link.now one.now other.now fates.now) }
+    ensures common { IfOk result (λ counts. 0 < counts.both) }
+    ensures refused { IfErr result (λ why. why ≢ Unmerged.Memory
+        → (why ≡ Unmerged.Unordered Unordered.Apart)
+        × ((counts_of link.now one.now other.now fates.now).both ≡ 0)) }
+{
+    match count_fates(alloc, &link.shape, link.spacecraft, one, other, fates) {
+        Ok(counts) if counts.both == 0 => Err(Unmerged::Unordered(Unordered::Apart)),
+        Ok(counts) => Ok(counts),
+        Err(_) => Err(Unmerged::Memory),
+    }
 }
 
 // Whether each frame that was left out is skipped or a repeat, and no order is a guess.

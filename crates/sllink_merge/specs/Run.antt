@@ -23,11 +23,11 @@ counts_of link one other fates = fate_counts link.shape link.spacecraft (taken_o
 
 -- These fates tell a merge of two recordings that have a frame in common: this is the merged recording, and so many frames
 -- have which fate.
-pub record IsMergedBy (link : Link) (one other : List ℕ) (fates : List Fate) (merged : List ℕ) (turn : Turn) : Type 0 where
+pub record IsMergedBy (link : Link) (one other : List ℕ) (fates : List Fate) (merged : List ℕ) (counts : FateCounts) : Type 0 where
   pub passes : is_merge link.shape link.spacecraft one other fates ≡ true
   pub octets_are : merged ≡ merged_octets link.shape.len one other fates
-  pub counts_are : turn.counts ≡ counts_of link one other fates
-  pub common : 0 < turn.counts.both
+  pub counts_are : counts ≡ counts_of link one other fates
+  pub common : 0 < counts.both
 
 -- these fates tell no merge, or one of two recordings without a frame in common
 abbrev pub IsRefusedFor : Link → List ℕ → List ℕ → List Fate → Unmerged → Type 0
@@ -38,13 +38,19 @@ IsRefusedFor link one other fates why =
 -- some fates do
 pub record MergesTo (link : Link) (one other merged : List ℕ) (turn : Turn) : Type 0 where
   pub fates : List Fate
-  pub is : IsMergedBy link one other fates merged turn
+  pub is : IsMergedBy link one other fates merged turn.counts
 
 -- each frame that is left out is skipped or a repeat, and no order is a guess
 abbrev pub is_sure : Turn → Bool
 is_sure turn =
     (turn.counts.first_left_out.stretches == 0) && ((turn.counts.second_left_out.stretches == 0)
     && ((turn.outages == 0) && ((turn.open == 0) && (turn.undecided == 0))))
+
+-- recordings are merged to this, and all is sure if it was before and the turn is
+pub record MergesOn (link : Link) (one other : List ℕ) (sure_before : Bool) (merged : List ℕ) (sure : Bool) : Type 0 where
+  pub turn : Turn
+  pub merges : MergesTo link one other merged turn
+  pub sure_is : sure ≡ (sure_before && is_sure turn)
 
 -- ---- recordings one after another
 

@@ -1,7 +1,7 @@
 //! Recordings merged one after another.
 ghost use Rattle.std.specs.Prelude.{◌≡◌, ◌≢◌, ◌<◌, ◌&&◌, ◌∷◌, [], true, false, IfErr, IfOk, OnOk};
 ghost use Rattle.sl_merge.specs.Merge.{is_merge};
-ghost use Rattle.sllink_merge.specs.Run.{IsMergedBy, IsRefusedFor, MergeAllTo, MergesTo};
+ghost use Rattle.sllink_merge.specs.Run.{IsMergedBy, IsRefusedFor, MergeAllTo, MergesOn, MergesTo};
 ghost use Rattle.sllink_merge.specs.Run.{counts_of, is_sure, octets_of};
 
 use crate::command_line::Link;
@@ -140,17 +140,14 @@ fn begin<S: BuildHasher + Copy>(
     ensures { IfOk result (λ merge. MergeAllTo link.now one.now (other.now ∷ []) merge.is_sure
         merge.octets.items) }
 {
-    let merged = merge_two(alloc, hasher, link, one, other)?;
-    let (octets, turn) = merged;
     let mut turns = Vec::new(alloc);
-    let is_sure = is_sure(&turn);
-    match turns.push(turn) {
-        Ok(()) => Ok(Merge {
+    match take_turn(alloc, hasher, link, one, other, &mut turns) {
+        Ok((octets, is_sure)) => Ok(Merge {
             octets,
             is_sure,
             turns,
         }),
-        Err(_) => Err(Unmerged::Memory),
+        Err(why) => Err(why),
     }
 }
 
@@ -162,19 +159,48 @@ fn add<S: BuildHasher + Copy>(
     merge: &mut Merge,
     other: &[u8],
 ) -> Result<(), Unmerged>
-    ensures { OnOk result ((turn : Turn)
-        × (merge.new.is_sure ≡ (merge.old.is_sure && is_sure turn))
-        × MergesTo link.now merge.old.octets.items other.now merge.new.octets.items turn) }
+    ensures { OnOk result (MergesOn link.now merge.old.octets.items other.now merge.old.is_sure
+        merge.new.octets.items merge.new.is_sure) }
 {
-    let merged = merge_two(alloc, hasher, link, merge.octets.as_slice(), other)?;
-    let (octets, turn) = merged;
-    let is_sure = is_sure(&turn);
-    if merge.turns.push(turn).is_err() {
-        return Err(Unmerged::Memory);
+    match take_turn(
+        alloc,
+        hasher,
+        link,
+        merge.octets.as_slice(),
+        other,
+        &mut merge.turns,
+    ) {
+        Ok((octets, is_sure)) => {
+            merge.is_sure = merge.is_sure && is_sure;
+            merge.octets = octets;
+            Ok(())
+        }
+        Err(why) => Err(why),
     }
-    merge.is_sure = merge.is_sure && is_sure;
-    merge.octets = octets;
-    Ok(())
+}
+
+// Merges two recordings, keeps what became of them, and says whether the turn is sure.
+fn take_turn<S: BuildHasher + Copy>(
+    alloc: Global,
+    hasher: S,
+    link: &Link,
+    one: &[u8],
+    other: &[u8],
+    turns: &mut Vec<Turn>,
+) -> Result<(Vec<u8>, bool), Unmerged>
+    ensures { IfOk result (λ merged. MergesOn link.now one.now other.now true merged.0.items
+        merged.1) }
+{
+    match merge_two(alloc, hasher, link, one, other) {
+        Ok((octets, turn)) => {
+            let sure = is_sure(&turn);
+            match turns.push(turn) {
+                Ok(()) => Ok((octets, sure)),
+                Err(_) => Err(Unmerged::Memory),
+            }
+        }
+        Err(why) => Err(why),
+    }
 }
 
 // Merges two recordings by the order that is found of their frames.
@@ -187,8 +213,10 @@ fn merge_two<S: BuildHasher + Copy>(
 ) -> Result<(Vec<u8>, Turn), Unmerged>
     ensures { IfOk result (λ merged. MergesTo link.now one.now other.now merged.0.items merged.1) }
 {
-    let order = find_order(alloc, hasher, &link.shape, link.spacecraft, one, other)?;
-    merge_by(alloc, hasher, link, one, other, &order)
+    match find_order(alloc, hasher, &link.shape, link.spacecraft, one, other) {
+        Ok(order) => merge_by(alloc, hasher, link, one, other, &order),
+        Err(why) => Err(Unmerged::from(why)),
+    }
 }
 
 // Merges two recordings by this order, if it passes the check.
@@ -201,7 +229,7 @@ fn merge_by<S: BuildHasher + Copy>(
     order: &Order,
 ) -> Result<(Vec<u8>, Turn), Unmerged>
     ensures merged { IfOk result (λ merged. IsMergedBy link.now one.now other.now
-        order.now.fates.items merged.0.items merged.1) }
+        order.now.fates.items merged.0.items merged.1.counts) }
     ensures told { IfOk result (λ merged. (merged.1.outages ≡ order.now.outages)
         × (merged.1.open ≡ order.now.open) × (merged.1.undecided ≡ order.now.undecided)
         × (merged.1.idle ≡ order.now.idle)) }
@@ -209,18 +237,50 @@ fn merge_by<S: BuildHasher + Copy>(
         → IsRefusedFor link.now one.now other.now order.now.fates.items why) }
 {
     let fates = order.fates.as_slice();
-    require_merge(alloc, hasher, link, one, other, fates)?;
-    let counts = count_common(alloc, link, one, other, fates)?;
-    let octets = merged_recording(alloc, &link.shape, one, other, fates)?;
-    let turn = Turn {
-        counts,
-        outages: order.outages,
-        open: order.open,
-        undecided: order.undecided,
-        idle: order.idle,
-        packets: packets_of(alloc, link, octets.as_slice())?,
+    match merge_fates(alloc, hasher, link, one, other, fates) {
+        Ok((octets, counts)) => match packets_of(alloc, link, octets.as_slice()) {
+            Ok(packets) => {
+                let turn = Turn {
+                    counts,
+                    outages: order.outages,
+                    open: order.open,
+                    undecided: order.undecided,
+                    idle: order.idle,
+                    packets,
+                };
+                Ok((octets, turn))
+            }
+            Err(_) => Err(Unmerged::Memory),
+        },
+        Err(why) => Err(why),
+    }
+}
+
+// Merges two recordings by these fates, if they pass the check, and counts frames by their fates.
+fn merge_fates<S: BuildHasher + Copy>(
+    alloc: Global,
+    hasher: S,
+    link: &Link,
+    one: &[u8],
+    other: &[u8],
+    fates: &[Fate],
+) -> Result<(Vec<u8>, FateCounts), Unmerged>
+    ensures merged { IfOk result (λ merged. IsMergedBy link.now one.now other.now fates.now
+        merged.0.items merged.1) }
+    ensures refused { IfErr result (λ why. why ≢ Unmerged.Memory
+        → IsRefusedFor link.now one.now other.now fates.now why) }
+{
+    if let Err(why) = require_merge(alloc, hasher, link, one, other, fates) {
+        return Err(why);
+    }
+    let counts = match count_common(alloc, link, one, other, fates) {
+        Ok(counts) => counts,
+        Err(why) => return Err(why),
     };
-    Ok((octets, turn))
+    match merged_recording(alloc, &link.shape, one, other, fates) {
+        Ok(octets) => Ok((octets, counts)),
+        Err(_) => Err(Unmerged::Memory),
+    }
 }
 
 // Refuses fates that are no merge.

@@ -6,11 +6,11 @@ use Rattle.std.proofs.Math.Nat.{min_comm}
 use Rattle.std.proofs.lemmas.Bool.{ltb-false}
 use Rattle.std.proofs.lemmas.List.{drop_min, take_min}
 use Rattle.std.proofs.lemmas.Result.{IfOk-at_ok}
-use Rattle.sl_link.specs.Link.Managed.{Parameters, managed_of}
-use Rattle.sl_link.specs.Link.Totals.{Counts}
-use Rattle.sl_link.specs.Same.{StopsInMemory}
+use Rattle.sl_engine.specs.Link.Managed.{Parameters, managed_of}
+use Rattle.sl_engine.specs.Link.Totals.{Counts}
+use Rattle.sl_engine.specs.Same.{StopsInMemory}
 use Rattle.sl_io.specs.declared.fault.LinkFault.{LinkFault}
-use Rattle.sl_link.specs.declared.link.managed.ManagedFault.{ManagedFault}
+use Rattle.sl_engine.specs.declared.link.managed.ManagedFault.{ManagedFault}
 use Rattle.sl_c.specs.Answer.{Says}
 use Rattle.sl_c.specs.declared.answer.Answer.{Answer}
 use Rattle.sl_c.specs.declared.answer.Answer.TheVariants.{Done, Memory, TooLong}

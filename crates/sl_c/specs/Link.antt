@@ -1,10 +1,10 @@
 -- The managed parameters of a link, and what is counted in a recording, as C has them.
 use Rattle.std.specs.Prelude.{ℕ, nat_lt, if◌then◌else◌, Result, Ok, Err}
 use Rattle.sl_tcframe.specs.VcSetModel.{numbers_from}
-use Rattle.sl_link.specs.declared.link.managed.ManagedFault.{ManagedFault}
-use Rattle.sl_link.specs.declared.link.managed.ManagedFault.TheVariants as fault
-use Rattle.sl_link.specs.Link.Managed.{Parameters, managed_of}
-use Rattle.sl_link.specs.Link.Totals.{Counts}
+use Rattle.sl_engine.specs.declared.link.managed.ManagedFault.{ManagedFault}
+use Rattle.sl_engine.specs.declared.link.managed.ManagedFault.TheVariants as fault
+use Rattle.sl_engine.specs.Link.Managed.{Parameters, managed_of}
+use Rattle.sl_engine.specs.Link.Totals.{Counts}
 use Rattle.sl_c.specs.declared.answer.Answer.{Answer}
 use Rattle.sl_c.specs.declared.answer.Answer.TheVariants.{Spacecraft, TmLength, TcLength, Window, Limit, TooLong}
 use Rattle.sl_c.specs.declared.link.ManagedFields.{ManagedFields}

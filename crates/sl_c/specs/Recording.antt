@@ -1,7 +1,7 @@
 -- What a call over recordings in memory answers, and what it leaves in what it was lent.
 use Rattle.std.specs.Prelude.{◌≡◌, ◌↔◌, ◌⊎◌, ℕ, ◌<◌, ◌≤◌, List, ◌++◌, length, take, drop, max, Bool, IsTrue, IfOk, IfErr}
-use Rattle.sl_link.specs.Link.Managed.{Parameters}
-use Rattle.sl_link.specs.Link.Totals.{Counts}
+use Rattle.sl_engine.specs.Link.Managed.{Parameters}
+use Rattle.sl_engine.specs.Link.Totals.{Counts}
 use Rattle.sl_c.specs.Answer.{Says}
 use Rattle.sl_c.specs.declared.answer.Answer.TheVariants.{Done, Memory, Room}
 use Rattle.sl_c.specs.declared.link.ManagedFields.{ManagedFields}

@@ -5,17 +5,17 @@
 //! answer is `Done`, or `Room` where the text is longer than `output`. Under any other answer, a
 //! refused parameter, `TooLong` or `Memory`, nothing is written.
 ghost use Rattle.std.specs.Prelude.{◌≡◌, ◌++◌, ◌<◌, ◌≤◌, length, take, drop, IfSome};
-ghost use Rattle.sl_link.specs.Engine.{engine_counts, engine_text};
-ghost use Rattle.sl_link.specs.Kind.Tc.{tc_counts};
-ghost use Rattle.sl_link.specs.Kind.Tm.{tm_counts};
-ghost use Rattle.sl_link.specs.Normalise.Tc.{tc_normal_form};
-ghost use Rattle.sl_link.specs.Normalise.Tm.{tm_normal_form};
-ghost use Rattle.sl_link.specs.Verbs.Check.Tc.{check_tc_counts, check_tc_text};
-ghost use Rattle.sl_link.specs.Verbs.Check.Tm.{check_tm_counts, check_tm_text};
-ghost use Rattle.sl_link.specs.Verbs.Packets.Tc.{packets_tc_text};
-ghost use Rattle.sl_link.specs.Verbs.Packets.Tm.{packets_tm_text};
-ghost use Rattle.sl_link.specs.Verbs.Show.Tc.{show_tc_counts, show_tc_text};
-ghost use Rattle.sl_link.specs.Verbs.Show.Tm.{show_tm_counts, show_tm_text};
+ghost use Rattle.sl_engine.specs.Engine.{engine_counts, engine_text};
+ghost use Rattle.sl_engine.specs.Kind.Tc.{tc_counts};
+ghost use Rattle.sl_engine.specs.Kind.Tm.{tm_counts};
+ghost use Rattle.sl_engine.specs.Normalise.Tc.{tc_normal_form};
+ghost use Rattle.sl_engine.specs.Normalise.Tm.{tm_normal_form};
+ghost use Rattle.sl_engine.specs.Verbs.Check.Tc.{check_tc_counts, check_tc_text};
+ghost use Rattle.sl_engine.specs.Verbs.Check.Tm.{check_tm_counts, check_tm_text};
+ghost use Rattle.sl_engine.specs.Verbs.Packets.Tc.{packets_tc_text};
+ghost use Rattle.sl_engine.specs.Verbs.Packets.Tm.{packets_tm_text};
+ghost use Rattle.sl_engine.specs.Verbs.Show.Tc.{show_tc_counts, show_tc_text};
+ghost use Rattle.sl_engine.specs.Verbs.Show.Tm.{show_tm_counts, show_tm_text};
 ghost use Rattle.sl_c.specs.Answer.{Says};
 ghost use Rattle.sl_c.specs.Recording.{GivesText, lent};
 

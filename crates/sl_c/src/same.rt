@@ -1,8 +1,8 @@
 //! Whether two recordings in memory deliver the same packets.
 ghost use Rattle.std.specs.Prelude.{◌≡◌, IfOk, OnErr};
-ghost use Rattle.sl_link.specs.Kind.Tc.{tc_packets};
-ghost use Rattle.sl_link.specs.Kind.Tm.{tm_packets};
-ghost use Rattle.sl_link.specs.Same.{MayRefuseStoreMemoryInTc, MayRefuseStoreMemoryInTm};
+ghost use Rattle.sl_engine.specs.Kind.Tc.{tc_packets};
+ghost use Rattle.sl_engine.specs.Kind.Tm.{tm_packets};
+ghost use Rattle.sl_engine.specs.Same.{MayRefuseStoreMemoryInTc, MayRefuseStoreMemoryInTm};
 ghost use Rattle.sl_c.specs.Answer.{Says};
 ghost use Rattle.sl_c.specs.Recording.{SaysWhetherSame};
 

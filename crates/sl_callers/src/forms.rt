@@ -4,10 +4,10 @@
 //! where a recording, or a normal form that it normalises again, is longer than the managed limit,
 //! and `Memory` where memory was refused. It has no other fault.
 ghost use Rattle.std.specs.Prelude.{◌≡◌, ◌↔◌, IsTrue, IfOk, length, max};
-ghost use Rattle.sl_link.specs.Kind.Tm.{tm_packets};
-ghost use Rattle.sl_link.specs.Normalise.Tm.{tm_normal_form};
-ghost use Rattle.sl_link.specs.Kind.Tc.{tc_packets};
-ghost use Rattle.sl_link.specs.Normalise.Tc.{tc_normal_form};
+ghost use Rattle.sl_engine.specs.Kind.Tm.{tm_packets};
+ghost use Rattle.sl_engine.specs.Normalise.Tm.{tm_normal_form};
+ghost use Rattle.sl_engine.specs.Kind.Tc.{tc_packets};
+ghost use Rattle.sl_engine.specs.Normalise.Tc.{tc_normal_form};
 ghost use Rattle.sl_callers.specs.Forms.{KeepsLimit};
 
 use sl_link::laws::{tc_normal_forms_tell_packets, tm_normal_forms_tell_packets};

@@ -1,18 +1,6 @@
 -- What proofs stand on: lemmas over the definitions, in the same folders as these.
 
--- two recordings that are read in turns
-pub mod Compare
--- chunks divided into frames
-pub mod Framing
--- lines that wait, digits, and streams
-pub mod Io
--- what the frames of a kind deliver
-pub mod Kind
--- parameters, faults, and what calls answer
-pub mod Link
--- normal forms, written and compared
-pub mod Normalise
+-- what holds of the definitions alone
+pub mod Laws
 -- the command line, and a run
 pub mod Program
--- the listings
-pub mod Verbs

@@ -1,20 +1,21 @@
-pub mod Compare
-pub mod Engine
-pub mod Framing
-pub mod Io
-pub mod Kind
-pub mod Link
-pub mod Normalise
+pub mod Laws
 pub mod Program
-pub mod Same
-pub mod Tally
-pub mod Verbs
 -- Definitions of the crates below that the public contracts rest on. They are for a crate outside this repository whose
 -- line in crates.txt has this crate but not those below: it reaches these definitions by this crate's name, and what it
 -- misses may be added. The crates here list all that they import from, and need no line.
 -- Where files of two crates have one name, as `Recording` of the flow crates, one of them at most can be in the list.
 pub use Rattle.sl_cop.specs.Farm
 pub use Rattle.sl_cop.specs.FarmClcw
+pub use Rattle.sl_engine.specs.Compare
+pub use Rattle.sl_engine.specs.Engine
+pub use Rattle.sl_engine.specs.Framing
+pub use Rattle.sl_engine.specs.Io
+pub use Rattle.sl_engine.specs.Kind
+pub use Rattle.sl_engine.specs.Link
+pub use Rattle.sl_engine.specs.Normalise
+pub use Rattle.sl_engine.specs.Same
+pub use Rattle.sl_engine.specs.Tally
+pub use Rattle.sl_engine.specs.Verbs
 pub use Rattle.sl_fields.specs.Clcw
 pub use Rattle.sl_fields.specs.Fecf
 pub use Rattle.sl_fields.specs.FecfField

@@ -1,18 +1,18 @@
 //! What holds of the definitions alone. Each function does nothing; its clauses are the laws.
-ghost use Rattle.sl_link.specs.Compare.Lost.{StationsLackLostPackets};
-ghost use Rattle.sl_link.specs.Compare.Summarised.{TcNumbersAreOfCheck, TmNumbersAreOfCheck};
-ghost use Rattle.sl_link.specs.Compare.Text.{TcDifferencesHaveLines, TmDifferencesHaveLines};
-ghost use Rattle.sl_link.specs.Verbs.Check.Anomaly.{LinesTellAnomalies};
-ghost use Rattle.sl_link.specs.Verbs.Check.Anomaly.Tc.{TcAnomaliesAreCounted, TcAnomaliesAreListed};
-ghost use Rattle.sl_link.specs.Verbs.Check.Anomaly.Tm.{TmAnomaliesAreCounted, TmAnomaliesAreListed};
-ghost use Rattle.sl_link.specs.Verbs.Packets.Listed.{TmPacketsAreListed, TcPacketsAreListed};
-ghost use Rattle.sl_link.specs.Normalise.Separation.{TmFormsTellPackets, TcFormsTellPackets};
+ghost use Rattle.sl_link.specs.Laws.Lost.{StationsLackLostPackets};
+ghost use Rattle.sl_engine.specs.Compare.Summarised.{TcNumbersAreOfCheck, TmNumbersAreOfCheck};
+ghost use Rattle.sl_engine.specs.Compare.Text.{TcDifferencesHaveLines, TmDifferencesHaveLines};
+ghost use Rattle.sl_link.specs.Laws.Anomaly.{LinesTellAnomalies};
+ghost use Rattle.sl_link.specs.Laws.Anomaly.Tc.{TcAnomaliesAreCounted, TcAnomaliesAreListed};
+ghost use Rattle.sl_link.specs.Laws.Anomaly.Tm.{TmAnomaliesAreCounted, TmAnomaliesAreListed};
+ghost use Rattle.sl_link.specs.Laws.Listed.{TmPacketsAreListed, TcPacketsAreListed};
+ghost use Rattle.sl_link.specs.Laws.Separation.{TmFormsTellPackets, TcFormsTellPackets};
 
 /// Under the same managed parameters, normal forms of two TM recordings are equal octet for octet
 /// exactly where the recordings deliver the same packets on each virtual channel, idle ones left
 /// out. A normal form delivers the packets of the recording that it was made of, and is its own
 /// normal form.
-#[tactic(auto, using(crate::proofs::lemmas::Normalise::Separation::tm_forms_tell_packets))]
+#[tactic(auto, using(crate::proofs::lemmas::Laws::Separation::tm_forms_tell_packets))]
 pub fn tm_normal_forms_tell_packets()
     ensures { TmFormsTellPackets }
 {}
@@ -21,7 +21,7 @@ pub fn tm_normal_forms_tell_packets()
 /// exactly where the recordings deliver the same packets on each virtual channel and MAP, idle ones
 /// left out. A normal form delivers the packets of the recording that it was made of, and is its
 /// own normal form.
-#[tactic(auto, using(crate::proofs::lemmas::Normalise::Separation::tc_forms_tell_packets))]
+#[tactic(auto, using(crate::proofs::lemmas::Laws::Separation::tc_forms_tell_packets))]
 pub fn tc_normal_forms_tell_packets()
     ensures { TcFormsTellPackets }
 {}
@@ -29,7 +29,7 @@ pub fn tc_normal_forms_tell_packets()
 /// The packet listing of a TM recording is a line for each of some packets. On each virtual channel
 /// these are exactly the packets that the recording delivers there, in their order, idle ones left
 /// out.
-#[tactic(auto, using(crate::proofs::lemmas::Verbs::Packets::Listed::tm_packets_are_listed))]
+#[tactic(auto, using(crate::proofs::lemmas::Laws::Listed::tm_packets_are_listed))]
 pub fn tm_packets_are_listed()
     ensures { TmPacketsAreListed }
 {}
@@ -37,7 +37,7 @@ pub fn tm_packets_are_listed()
 /// The packet listing of a TC recording is a line for each of some packets. On each virtual channel
 /// and MAP these are exactly the packets that the recording delivers there, in their order, idle
 /// ones left out.
-#[tactic(auto, using(crate::proofs::lemmas::Verbs::Packets::Listed::tc_packets_are_listed))]
+#[tactic(auto, using(crate::proofs::lemmas::Laws::Listed::tc_packets_are_listed))]
 pub fn tc_packets_are_listed()
     ensures { TcPacketsAreListed }
 {}
@@ -46,7 +46,7 @@ pub fn tc_packets_are_listed()
 /// channel lacks exactly the packets that ran through a frame that was lost, in some order, and has
 /// none of its own there, idle packets left out. The frame counts of the whole channel have no gap,
 /// and fewer than 256 frames in a row were lost between two that were kept.
-#[tactic(auto, using(crate::proofs::lemmas::Compare::Lost::stations_lack_lost_packets))]
+#[tactic(auto, using(crate::proofs::lemmas::Laws::Lost::stations_lack_lost_packets))]
 pub fn tm_stations_lack_lost_packets()
     ensures { StationsLackLostPackets }
 {}
@@ -54,7 +54,7 @@ pub fn tm_stations_lack_lost_packets()
 /// What `compare_tm` and `compare_tc` count of a recording is of the lines that `check` writes of
 /// it: its text is these lines, one after another, and then that of the totals, whose number of
 /// anomalies is theirs.
-#[tactic(auto, using(crate::proofs::lemmas::Compare::Laws::tm_numbers, crate::proofs::lemmas::Compare::Laws::tc_numbers))]
+#[tactic(auto, using(crate::proofs::lemmas::Laws::Compared::tm_numbers, crate::proofs::lemmas::Laws::Compared::tc_numbers))]
 pub fn compared_numbers_are_of_check()
     ensures tm { TmNumbersAreOfCheck }
     ensures tc { TcNumbersAreOfCheck }
@@ -75,7 +75,7 @@ pub fn differences_have_lines()
 /// What an anomaly is, is said by how the recording is delimited and how its frames are read, and by
 /// the relations that the laws of `sl_tmflow` tie to its reports: a gap, a packet that is broken off,
 /// octets of another version at a packet start, an incomplete packet.
-#[tactic(auto, using(crate::proofs::lemmas::Verbs::Check::Anomaly::Tm::tm_anomalies_are_listed))]
+#[tactic(auto, using(crate::proofs::lemmas::Laws::Anomaly::Tm::tm_anomalies_are_listed))]
 pub fn tm_anomalies_are_listed()
     ensures { TmAnomaliesAreListed }
 {}
@@ -84,7 +84,7 @@ pub fn tm_anomalies_are_listed()
 /// by how the recording is delimited and how its frames are read, by FARM-1's table, and by the
 /// relations that the laws of `sl_tcflow` tie to its reports: a segment out of sequence, a series
 /// that is dropped, too long or incomplete, octets that are left after packets.
-#[tactic(auto, using(crate::proofs::lemmas::Verbs::Check::Anomaly::Tc::tc_anomalies_are_listed))]
+#[tactic(auto, using(crate::proofs::lemmas::Laws::Anomaly::Tc::tc_anomalies_are_listed))]
 pub fn tc_anomalies_are_listed()
     ensures { TcAnomaliesAreListed }
 {}

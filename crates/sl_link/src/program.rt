@@ -3,18 +3,16 @@ ghost use Rattle.std.specs.Prelude.{◌≡◌, ◌≢◌, ◌≤◌, ◌⊎◌, 
 ghost use Rattle.clap.specs.Words.{kind_of};
 ghost use Rattle.sl_link.specs.Program.Answer.{EndsAsHelp, MayLackMemory, WithAnswer, WithText};
 ghost use Rattle.sl_link.specs.Program.CommandLine.{AreRefused};
-ghost use Rattle.sl_link.specs.Io.Streams.{StopsWriting, WritesText};
-ghost use Rattle.sl_link.specs.Engine.{HasWritten, IsStoppedBy};
+ghost use Rattle.sl_engine.specs.Io.Streams.{StopsWriting, WritesText};
+ghost use Rattle.sl_engine.specs.Engine.{HasWritten, IsStoppedBy};
 ghost use Rattle.sl_link.specs.Program.Run.{AsksForRefusedParameter, HasMetAnomalies, HasStopped, HasSucceeded, WithAsked};
 
 pub mod command_line;
 
-use crate::engine::{Engine, run_engine};
-use crate::link::managed::Managed;
-use crate::link::totals::Totals;
 use clap::Error;
 use clap::error::ErrorKind;
 use command_line::{Asked, parse};
+use sl_engine::{Engine, Managed, Totals, run_engine};
 use sl_io::{Counted, LinkFault, flush, write_text};
 use std::alloc::{AllocError, Global};
 use std::io::{Read, Write};

@@ -6,9 +6,9 @@ use Rattle.std.specs.declared.hash.Hasher as hasher
 use Rattle.sl_io.specs.declared.counted.Counted.{Counted}
 use Rattle.sl_io.specs.declared.fault.LinkFault.{LinkFault}
 use Rattle.sl_io.specs.Streams.{StopsWriting, WritesText}
-use Rattle.sl_link.specs.Compare.{Compares, by_channel}
-use Rattle.sl_link.specs.declared.compare.Compared.{Compared}
-use Rattle.sl_link.specs.declared.compare.summary.Summary.{Summary}
+use Rattle.sl_engine.specs.Compare.{Compares, by_channel}
+use Rattle.sl_engine.specs.declared.compare.Compared.{Compared}
+use Rattle.sl_engine.specs.declared.compare.summary.Summary.{Summary}
 use Rattle.sl_pair.specs.declared.pairing.Answer.{Answer}
 use Rattle.sl_pair.specs.Pairing.{ByChannel, StandsAfter}
 use Rattle.sllink_compare.specs.Run.{HasEnded, HasStopped, answer_text, open_question, output_text, packets_of, status_of, summary_of, unless_open}

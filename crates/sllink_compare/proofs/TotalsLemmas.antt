@@ -3,8 +3,8 @@ use Rattle.std.proofs.Common.{◌≡◌, ◌∙◌, ap, sym, ◌<◌, ℕ, zero,
 use Rattle.std.specs.Prelude.{◌==◌, if◌then◌else◌, flat_map}
 use Rattle.std.specs.List.{range_with_len, slice_index_or}
 use Rattle.std.proofs.lemmas.Grind.{flat_map-append}
-use Rattle.sl_link.specs.Compare.Words.{word_text}
-use Rattle.sl_link.specs.declared.compare.words.CheckWord.TheVariants.{Skip}
+use Rattle.sl_engine.specs.Compare.Words.{word_text}
+use Rattle.sl_engine.specs.declared.compare.words.CheckWord.TheVariants.{Skip}
 use Rattle.sllink_compare.specs.Totals.{listed, mark_before, word_found, word_number, words, words_found}
 
 -- whether there are no texts, so that the next one is the first

@@ -3,9 +3,9 @@ use Rattle.std.specs.Prelude.{ℕ, ◌+◌, ◌-◌, ◌*◌, ◌==◌, nat_lt, 
 use Rattle.std.specs.Prelude.{List, [], ◌∷◌, Option, None, Some}
 use Rattle.std.specs.List.{count_by, list_any, range_with_len, slice_index_or}
 use Rattle.std.specs.Option.{option_or}
-use Rattle.sl_link.specs.Compare.Signs.{looked_at}
-use Rattle.sl_link.specs.declared.compare.summary.Summary.{Summary}
-use Rattle.sl_link.specs.declared.compare.words.WordCounts.{WordCounts}
+use Rattle.sl_engine.specs.Compare.Signs.{looked_at}
+use Rattle.sl_engine.specs.declared.compare.summary.Summary.{Summary}
+use Rattle.sl_engine.specs.declared.compare.words.WordCounts.{WordCounts}
 use Rattle.sl_pair.specs.declared.channel.Station.{Station}
 use Rattle.sl_pair.specs.declared.channel.Station.TheVariants.{First, Second}
 use Rattle.sl_pair.specs.declared.pairing.Answer.{Answer}

@@ -3,18 +3,18 @@ use Rattle.std.specs.Prelude.{◌≡◌, ◌⊎◌, ◌↔◌, ⊤, ℕ, Bool, L
 use Rattle.sl_io.specs.declared.counted.Counted.{Counted}
 use Rattle.sl_io.specs.declared.fault.LinkFault.{LinkFault}
 use Rattle.sl_io.specs.Streams.{ReadsAll, StopsReading, StopsWriting, WritesText}
-use Rattle.sl_link.specs.Compare.{ReadsBeginning, by_channel}
-use Rattle.sl_link.specs.Compare.Summarised.{tc_summary, tm_summary}
-use Rattle.sl_link.specs.Compare.Text.{difference_text}
-use Rattle.sl_link.specs.Framing.{chunk_size}
-use Rattle.sl_link.specs.Kind.Tc.{tc_packets}
-use Rattle.sl_link.specs.Kind.Tm.{tm_packets}
-use Rattle.sl_link.specs.Link.Managed.{Parameters}
-use Rattle.sl_link.specs.Verbs.Packets.Tc.{tc_channel_name}
-use Rattle.sl_link.specs.Verbs.Packets.Tm.{tm_channel_name}
-use Rattle.sl_link.specs.declared.compare.summary.Summary.{Summary}
-use Rattle.sl_link.specs.declared.engine.RecordingKind.{RecordingKind}
-use Rattle.sl_link.specs.declared.engine.RecordingKind.TheVariants.{Tm, Tc}
+use Rattle.sl_engine.specs.Compare.{ReadsBeginning, by_channel}
+use Rattle.sl_engine.specs.Compare.Summarised.{tc_summary, tm_summary}
+use Rattle.sl_engine.specs.Compare.Text.{difference_text}
+use Rattle.sl_engine.specs.Framing.{chunk_size}
+use Rattle.sl_engine.specs.Kind.Tc.{tc_packets}
+use Rattle.sl_engine.specs.Kind.Tm.{tm_packets}
+use Rattle.sl_engine.specs.Link.Managed.{Parameters}
+use Rattle.sl_engine.specs.Verbs.Packets.Tc.{tc_channel_name}
+use Rattle.sl_engine.specs.Verbs.Packets.Tm.{tm_channel_name}
+use Rattle.sl_engine.specs.declared.compare.summary.Summary.{Summary}
+use Rattle.sl_engine.specs.declared.engine.RecordingKind.{RecordingKind}
+use Rattle.sl_engine.specs.declared.engine.RecordingKind.TheVariants.{Tm, Tc}
 use Rattle.sl_pair.specs.Pairing.{ByChannel, NothingIsLeft}
 use Rattle.sl_pair.specs.declared.pairing.Answer.{Answer}
 use Rattle.sl_pair.specs.declared.pairing.Answer.TheVariants.{Same, Reordered, Different}

@@ -1,12 +1,12 @@
 -- The lines of the totals of two recordings.
 use Rattle.std.specs.Prelude.{ℕ, ◌==◌, Bool, true, false, if◌then◌else◌, List, [], ◌∷◌, ◌++◌, codes, decimal, flat_map}
 use Rattle.std.specs.List.{range_with_len, slice_index_or}
-use Rattle.sl_link.specs.Link.Totals.{Counts}
-use Rattle.sl_link.specs.Compare.Words.{word_text}
-use Rattle.sl_link.specs.declared.compare.words.CheckWord.{CheckWord}
-use Rattle.sl_link.specs.declared.compare.words.CheckWord.TheVariants.{Skip, Gap, Dropped, Opaque, Foreign, Rest, Open}
-use Rattle.sl_link.specs.declared.compare.words.CheckWord.TheVariants.{Early, Late, Outside, Refused, Stray, Long, Tail}
-use Rattle.sl_link.specs.declared.compare.summary.Summary.{Summary}
+use Rattle.sl_engine.specs.Link.Totals.{Counts}
+use Rattle.sl_engine.specs.Compare.Words.{word_text}
+use Rattle.sl_engine.specs.declared.compare.words.CheckWord.{CheckWord}
+use Rattle.sl_engine.specs.declared.compare.words.CheckWord.TheVariants.{Skip, Gap, Dropped, Opaque, Foreign, Rest, Open}
+use Rattle.sl_engine.specs.declared.compare.words.CheckWord.TheVariants.{Early, Late, Outside, Refused, Stray, Long, Tail}
+use Rattle.sl_engine.specs.declared.compare.summary.Summary.{Summary}
 use Rattle.sllink_compare.specs.Questions.{numbers_of}
 use Rattle.sllink_compare.specs.declared.totals.Names.{Names}
 

@@ -1,7 +1,7 @@
 //! Why nothing can be said of two recordings: questions that `--allow` answers.
 ghost use Rattle.std.specs.Prelude.{◌≡◌, ◌<◌};
 ghost use Rattle.std.specs.List.{count_by};
-ghost use Rattle.sl_link.specs.Compare.Words.{word_text};
+ghost use Rattle.sl_engine.specs.Compare.Words.{word_text};
 ghost use Rattle.sllink_compare.specs.Questions.{differs, doubt_of, has_other_lines, is_most};
 ghost use Rattle.sllink_compare.specs.Questions.{is_mostly_skipped, is_other, is_over_a_tenth};
 ghost use Rattle.sllink_compare.specs.Questions.{lines_question, most_question, nothing_question};

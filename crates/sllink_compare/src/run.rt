@@ -2,7 +2,7 @@
 ghost use Rattle.std.specs.Prelude.{◌≡◌, ◌≢◌, ◌++◌, ⊤, string_bytes, None, IfOk, IfErr, OnOk};
 ghost use Rattle.sl_io.specs.Streams.{StopsWriting, WritesText};
 ghost use Rattle.sl_io.specs.declared.fault.LinkFault.{LinkFault};
-ghost use Rattle.sl_link.specs.Compare.{Compares};
+ghost use Rattle.sl_engine.specs.Compare.{Compares};
 ghost use Rattle.sl_pair.specs.Pairing.{ByChannel, StandsAfter};
 ghost use Rattle.sllink_compare.specs.Run.{HasEnded, HasStopped, StopsComparing, answer_text};
 ghost use Rattle.sllink_compare.specs.Run.{difference_head, differences, has_field};

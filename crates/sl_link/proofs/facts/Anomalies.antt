@@ -6,15 +6,15 @@ use Rattle.sl_cop.specs.declared.verdict.Verdict.TheVariants.{Early}
 use Rattle.sl_cop.specs.Farm.{farm_start}
 use Rattle.sl_tcframe.specs.TcFrame.{Ad}
 use Rattle.sl_tmframe.specs.TmFrame.{TmView, view_of}
-use Rattle.sl_link.specs.Link.Managed.{tm_format}
-use Rattle.sl_link.specs.Verbs.Check.Anomaly.{Anomaly, Finding, ComesBefore, line_of}
-use Rattle.sl_link.specs.Verbs.Check.Anomaly.{Discarded, Dropped, Foreign, Gap, Opaque, Open, Rest, Skip, Stray, Tail, TooLong}
-use Rattle.sl_link.specs.Verbs.Check.Anomaly.{Command, Fecf}
-use Rattle.sl_link.specs.Verbs.Check.Anomaly.Tc.{IsTcAnomaly}
-use Rattle.sl_link.specs.Verbs.Check.Anomaly.Tm.{IsTmAnomaly}
-use Rattle.sl_link.proofs.facts.Listings.{ad}
-use Rattle.sl_link.proofs.facts.NormalForms.{begun, ended, framed}
-use Rattle.sl_link.proofs.facts.Rows.{hex, tm, tc}
+use Rattle.sl_engine.specs.Link.Managed.{tm_format}
+use Rattle.sl_link.specs.Laws.Anomaly.{Anomaly, Finding, ComesBefore, line_of}
+use Rattle.sl_link.specs.Laws.Anomaly.{Discarded, Dropped, Foreign, Gap, Opaque, Open, Rest, Skip, Stray, Tail, TooLong}
+use Rattle.sl_link.specs.Laws.Anomaly.{Command, Fecf}
+use Rattle.sl_link.specs.Laws.Anomaly.Tc.{IsTcAnomaly}
+use Rattle.sl_link.specs.Laws.Anomaly.Tm.{IsTmAnomaly}
+use Rattle.sl_engine.proofs.facts.Listings.{ad}
+use Rattle.sl_engine.proofs.facts.NormalForms.{begun, ended, framed}
+use Rattle.sl_engine.proofs.facts.Rows.{hex, tm, tc}
 
 abbrev at : ℕ → Finding → Anomaly
 at offset finding = record { offset = offset; finding = finding }

@@ -6,15 +6,15 @@ use Rattle.clap.specs.Words.{Kinds, Row, Text, subcommand_of}
 use Rattle.clap.specs.declared.error.kind.ErrorKind.TheVariants.{ArgumentConflict, DisplayHelp, DisplayVersion, InvalidSubcommand, InvalidValue, MissingRequiredArgument, MissingSubcommand, TooManyValues, UnknownArgument, ValueValidation}
 use Rattle.clap.proofs.OnLiterals.{clap_on_literals}
 use Rattle.sl_link.specs.Program.CommandLine.{is_complete, kind_in, parameters_in, plain_in, refusals, sllink_app, starts_in, verb_named, with_vcs}
-use Rattle.sl_link.specs.Link.Managed.{Parameters, managed_of}
-use Rattle.sl_link.specs.declared.link.managed.ManagedFault.TheVariants.{Window}
-use Rattle.sl_link.specs.declared.engine.RecordingKind.{RecordingKind}
-use Rattle.sl_link.specs.declared.engine.RecordingKind.TheVariants.{Tm, Tc}
+use Rattle.sl_engine.specs.Link.Managed.{Parameters, managed_of}
+use Rattle.sl_engine.specs.declared.link.managed.ManagedFault.TheVariants.{Window}
+use Rattle.sl_engine.specs.declared.engine.RecordingKind.{RecordingKind}
+use Rattle.sl_engine.specs.declared.engine.RecordingKind.TheVariants.{Tm, Tc}
 use Rattle.sl_link.specs.declared.program.command_line.RefusedParameter.{RefusedParameter}
 use Rattle.sl_link.specs.declared.program.command_line.RefusedParameter.TheVariants as refused
-use Rattle.sl_link.specs.declared.engine.VerbName.{VerbName}
-use Rattle.sl_link.specs.declared.engine.VerbName.TheVariants.{Show, Check, Packets, Normalise}
-use Rattle.sl_link.proofs.facts.Rows.{tm}
+use Rattle.sl_engine.specs.declared.engine.VerbName.{VerbName}
+use Rattle.sl_engine.specs.declared.engine.VerbName.TheVariants.{Show, Check, Packets, Normalise}
+use Rattle.sl_engine.proofs.facts.Rows.{tm}
 
 -- a table of values, and what the function gives for each
 abbrev Have : {A B : Type 0} → (A → B) → List (A × B) → Type 0

@@ -19,15 +19,15 @@ use Rattle.clap.specs.declared.error.kind.ErrorKind.TheVariants.{DisplayHelp, Di
 use Rattle.sl_cop.specs.Starts.{AreNamed, Item, starts_over}
 use Rattle.sl_cop.specs.Starts as starts
 use Rattle.sl_tcframe.specs.VcSet as vc_set
-use Rattle.sl_link.specs.Link.Managed.{Parameters, managed_of}
-use Rattle.sl_link.specs.declared.link.managed.ManagedFault.{ManagedFault}
+use Rattle.sl_engine.specs.Link.Managed.{Parameters, managed_of}
+use Rattle.sl_engine.specs.declared.link.managed.ManagedFault.{ManagedFault}
 use Rattle.sl_link.specs.declared.program.command_line.Asked.{Asked}
-use Rattle.sl_link.specs.declared.engine.RecordingKind.{RecordingKind}
-use Rattle.sl_link.specs.declared.engine.RecordingKind.TheVariants.{Tm, Tc}
+use Rattle.sl_engine.specs.declared.engine.RecordingKind.{RecordingKind}
+use Rattle.sl_engine.specs.declared.engine.RecordingKind.TheVariants.{Tm, Tc}
 use Rattle.sl_link.specs.declared.program.command_line.RefusedParameter.{RefusedParameter}
 use Rattle.sl_link.specs.declared.program.command_line.RefusedParameter.TheVariants as refused
-use Rattle.sl_link.specs.declared.engine.VerbName.{VerbName}
-use Rattle.sl_link.specs.declared.engine.VerbName.TheVariants.{Show, Check, Packets, Normalise}
+use Rattle.sl_engine.specs.declared.engine.VerbName.{VerbName}
+use Rattle.sl_engine.specs.declared.engine.VerbName.TheVariants.{Show, Check, Packets, Normalise}
 
 -- ---- the arguments
 

@@ -1,13 +1,13 @@
 -- How a run of the program ends.
 use Rattle.std.specs.Prelude.{ℕ, List, ◌≡◌, ◌≢◌, IsErr, Option, Ok}
 use Rattle.clap.specs.Walk.{Text}
-use Rattle.sl_link.specs.declared.engine.VerbName.TheVariants.{Check}
+use Rattle.sl_engine.specs.declared.engine.VerbName.TheVariants.{Check}
 use Rattle.sl_io.specs.declared.counted.Counted.{Counted}
 use Rattle.sl_io.specs.declared.fault.LinkFault.{LinkFault}
 use Rattle.sl_link.specs.declared.program.command_line.Asked.{Asked}
-use Rattle.sl_link.specs.Engine.{HasWritten, IsStoppedBy}
-use Rattle.sl_link.specs.Link.Managed.{Parameters}
-use Rattle.sl_link.specs.Link.Totals.{Counts}
+use Rattle.sl_engine.specs.Engine.{HasWritten, IsStoppedBy}
+use Rattle.sl_engine.specs.Link.Managed.{Parameters}
+use Rattle.sl_engine.specs.Link.Totals.{Counts}
 use Rattle.sl_link.specs.Program.CommandLine.{AskFor}
 
 module _ {R W : Type 0} (remaining : R → Option (List ℕ)) (contents : W → Option (List ℕ)) where

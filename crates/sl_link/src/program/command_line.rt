@@ -2,18 +2,17 @@
 ghost use Rattle.std.specs.Prelude.{◌≡◌, ◌⊎◌, false, map, option_map, string_bytes, IfOk, IfErr};
 ghost use Rattle.clap.specs.Words.{app_of, found_of, kind_of, new_app, rows_of, rule_of, with_subcommand};
 ghost use Rattle.clap.specs.declared.builder.Command.TheViews.{out-Command as fields_of};
-ghost use Rattle.sl_link.specs.Link.Managed.{managed_of};
+ghost use Rattle.sl_engine.specs.Link.Managed.{managed_of};
 ghost use Rattle.sl_link.specs.Program.CommandLine.{AreFrom, AskFor, Asks, Gives, IsPlain, IsRefusal, IsSllink, flag_rule};
 ghost use Rattle.sl_link.specs.Program.CommandLine.{is_set, kind_named, link_options, needed, number_in};
 ghost use Rattle.sl_link.specs.Program.CommandLine.{parameters_in, text_rule, top_app, verb_named, with_arguments};
 ghost use Rattle.sl_link.specs.Program.CommandLine.{with_default, with_link_options, with_numbers, with_vcs};
 
-use crate::engine::{RecordingKind, VerbName};
-use crate::link::managed::{Managed, ManagedFault};
 use clap::builder::ValueParser;
 use clap::error::ErrorKind;
 use clap::{Arg, ArgAction, ArgMatches, Command, value_parser};
 use sl_cop::Starts;
+use sl_engine::{Managed, ManagedFault, RecordingKind, VerbName};
 use sl_tcframe::VcSet;
 use std::alloc::{AllocError, Global};
 use thiserror::Error;

@@ -1,7 +1,7 @@
 use Rattle.std.proofs.Common.{◌≡◌, ◌≢◌, ◌+◌, ◌∷◌, ◌∙◌, arith, ap, drop, false, sym, true, Err}
 use Rattle.std.proofs.lemmas.List.{drop_all, drop_more}
 use Rattle.sl_packet.specs.declared.flow_fault.FlowFault.TheVariants.{Failed}
-use Rattle.sl_link.proofs.lemmas.Link.Answers.{passed_up}
+use Rattle.sl_engine.proofs.lemmas.Link.Answers.{passed_up}
 use Rattle.sl_callers.proofs.Handing.{all_handed, hands_next, none_handed, stopped_for_memory, tm_hands_over}
 use Rattle.sl_callers.proofs.extractor.deliver.Goals as goal
 

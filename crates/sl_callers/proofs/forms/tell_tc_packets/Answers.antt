@@ -1,6 +1,6 @@
 use Rattle.std.proofs.Common.{◌≡◌, ◌∙◌, sym}
 use lib.Pointwise.{bytes_decides}
-use Rattle.sl_link.specs.Normalise.Tc.{tc_normal_form}
+use Rattle.sl_engine.specs.Normalise.Tc.{tc_normal_form}
 use Rattle.sl_callers.proofs.forms.tell_tc_packets.Goals as goal
 
 pub returns-clause-same : goal.returns-clause-same

@@ -1,6 +1,6 @@
-use Rattle.sl_link.proofs.lemmas.Verbs.Check.Anomaly.Line.{lines_tell}
-use Rattle.sl_link.proofs.lemmas.Verbs.Check.Anomaly.Tc.{tc_anomalies_are_counted}
-use Rattle.sl_link.proofs.lemmas.Verbs.Check.Anomaly.Tm.{tm_anomalies_are_counted}
+use Rattle.sl_link.proofs.lemmas.Laws.Anomaly.Line.{lines_tell}
+use Rattle.sl_link.proofs.lemmas.Laws.Anomaly.Tc.{tc_anomalies_are_counted}
+use Rattle.sl_link.proofs.lemmas.Laws.Anomaly.Tm.{tm_anomalies_are_counted}
 use Rattle.sl_link.proofs.laws.anomalies_have_their_own_lines.Goals as goal
 
 pub returns-clause-lines : goal.returns-clause-lines

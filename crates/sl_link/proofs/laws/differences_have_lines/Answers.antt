@@ -1,4 +1,4 @@
-use Rattle.sl_link.proofs.lemmas.Compare.Laws.{tc_differences, tm_differences}
+use Rattle.sl_link.proofs.lemmas.Laws.Compared.{tc_differences, tm_differences}
 use Rattle.sl_link.proofs.laws.differences_have_lines.Goals as goal
 
 pub returns-clause-tm : goal.returns-clause-tm

@@ -11,10 +11,10 @@ use Rattle.sl_io.specs.declared.fault.LinkFault.{LinkFault}
 use Rattle.sl_io.specs.declared.fault.LinkFault.TheVariants.{Memory, Write}
 use Rattle.sl_link.specs.Program.Answer.{EndsAsHelp, WithAnswer, WithText, version_line}
 use Rattle.sl_link.specs.Program.CommandLine.{AskForHelp, AskForVersion, IsRefusal}
-use Rattle.sl_link.specs.Link.Counted.{stream_of, HadOneFault}
-use Rattle.sl_link.specs.Engine.{Engine, HasWritten, IsStoppedBy}
-use Rattle.sl_link.specs.Link.Managed.{Parameters}
-use Rattle.sl_link.specs.Link.Totals.{Counts}
+use Rattle.sl_engine.specs.Link.Counted.{stream_of, HadOneFault}
+use Rattle.sl_engine.specs.Engine.{Engine, HasWritten, IsStoppedBy}
+use Rattle.sl_engine.specs.Link.Managed.{Parameters}
+use Rattle.sl_engine.specs.Link.Totals.{Counts}
 
 module _ {R W : Type 0} {remaining : R → Option (List ℕ)} {contents : W → Option (List ℕ)} {reader reader' : Counted R} {writer mid writer' : Counted W} where
   -- where the flush fails, all of the text is in its place, but the writer had a fault

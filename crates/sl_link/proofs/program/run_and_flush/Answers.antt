@@ -1,4 +1,4 @@
-use Rattle.sl_link.proofs.lemmas.Link.Answers.{passed_up}
+use Rattle.sl_engine.proofs.lemmas.Link.Answers.{passed_up}
 use Rattle.sl_io.proofs.StreamLemmas.{written_flushed}
 use Rattle.sl_link.proofs.lemmas.Program.Run.{stopped_flushing}
 use Rattle.sl_link.proofs.program.run_and_flush.Goals as goal

@@ -1,9 +1,9 @@
 use Rattle.std.proofs.Common.{◌∙◌, ℕ, Option, Result, ap, codes, subst}
 use Rattle.clap.specs.Walk.{Text}
 use Rattle.clap.specs.Words.{found_of}
-use Rattle.sl_link.specs.Link.Managed.{Parameters}
+use Rattle.sl_engine.specs.Link.Managed.{Parameters}
 use Rattle.sl_link.specs.Program.CommandLine.{AreFrom, IsPlain, with_vcs}
-use Rattle.sl_link.specs.declared.link.managed.ManagedFault.{ManagedFault}
+use Rattle.sl_engine.specs.declared.link.managed.ManagedFault.{ManagedFault}
 use Rattle.sl_link.proofs.lemmas.Program.CommandLine.{text_got}
 use Rattle.sl_link.proofs.program.command_line.managed_of_options.Goals as goal
 

@@ -1,0 +1,4 @@
+-- worked examples
+pub mod facts
+-- what proofs stand on
+pub mod lemmas

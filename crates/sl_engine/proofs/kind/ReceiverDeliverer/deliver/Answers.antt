@@ -1,0 +1,94 @@
+use Rattle.std.proofs.Common.{rules, ◌≡◌, ◌≢◌, ◌∙◌, Ok, Err, ap, refl, sym}
+use Rattle.std.specs.Prelude.{is_err}
+use Rattle.sl_packet.specs.declared.flow_fault.FlowFault.TheVariants.{Failed}
+use Rattle.sl_tcflow.specs.AcceptedUnit.{views_of}
+use Rattle.sl_engine.specs.Kind.Tc.{as_read, unit_channel_of, ended_in, found_after}
+use Rattle.sl_engine.specs.Link.Managed.{reception_of, tc_format}
+use Rattle.sl_engine.proofs.lemmas.Kind.Delivery.{delivers_as}
+use Rattle.sl_engine.proofs.lemmas.Kind.Tc.{one_processed, some_octets, is_incomplete_at_last}
+use Rattle.sl_engine.proofs.lemmas.Link.Fault.{never_failed}
+use Rattle.sl_engine.proofs.kind.ReceiverDeliverer.deliver.Goals as goal
+
+pub returns-in-Err-clause-processed : goal.returns-in-Err-clause-processed
+returns-in-Err-clause-processed g c =
+    let p = c.args.managed.now in
+    let skipped : as_read p c.args.frame.now ≡ Err c.in-Err.reason = search rules in
+    λ before h.
+    one_processed c.args.frame.now h skipped h.processed
+
+pub returns-in-Err-clause-delivers : goal.returns-in-Err-clause-delivers
+returns-in-Err-clause-delivers g c =
+    let p = c.args.managed.now in
+    let skipped : as_read p c.args.frame.now ≡ Err c.in-Err.reason = search rules in
+    λ before h.
+    let r = reception_of p in
+    let seen = views_of (tc_format p) p.spacecraft before in
+    delivers_as (ap (unit_channel_of r) skipped) (ap (ended_in r seen) skipped) (ap is_err skipped)
+    (some_octets p c.args.frame.now c.requires.2) refl refl refl refl
+
+pub returns-in-Err-clause-found : goal.returns-in-Err-clause-found
+returns-in-Err-clause-found g c =
+    let p = c.args.managed.now in
+    let skipped : as_read p c.args.frame.now ≡ Err c.in-Err.reason = search rules in
+    λ before h. sym (ap (found_after (reception_of p) (views_of (tc_format p) p.spacecraft before)) skipped)
+
+pub returns-clause-processed : goal.returns-clause-processed
+returns-clause-processed g c =
+    let p = c.args.managed.now in
+    let read : as_read p c.args.frame.now ≡ Ok c.in-Ok.view = search rules in
+    λ before h.
+    let r = reception_of p in
+    let seen = views_of (tc_format p) p.spacecraft before in
+    one_processed c.args.frame.now h read (c.in-Ok-frame.ensures.processed r seen h.processed)
+
+pub returns-clause-delivers : goal.returns-clause-delivers
+returns-clause-delivers g c =
+    let p = c.args.managed.now in
+    let view = c.in-Ok.view in
+    let read : as_read p c.args.frame.now ≡ Ok view = search rules in
+    λ before h.
+    let r = reception_of p in
+    let seen = views_of (tc_format p) p.spacecraft before in
+    delivers_as (ap (unit_channel_of r) read) (ap (ended_in r seen) read) (ap is_err read) (some_octets p c.args.frame.now c.requires.2)
+    (c.in-Ok-frame.ensures.accepted r seen h.processed) refl
+    (c.packets.ensures ∙ c.in-Ok-frame.ensures.packets r seen h.processed) (c.idle.ensures ∙ c.in-Ok-frame.ensures.idle r seen h.processed)
+
+pub returns-clause-found : goal.returns-clause-found
+returns-clause-found g c =
+    let p = c.args.managed.now in
+    let read : as_read p c.args.frame.now ≡ Ok c.in-Ok.view = search rules in
+    λ before h.
+    let r = reception_of p in
+    let seen = views_of (tc_format p) p.spacecraft before in
+    let e = c.in-Ok-frame.ensures in
+    rw (
+      c.vc.ensures.value,
+      c.map.ensures.value ∙ e.map r seen h.processed,
+      c.content_ns.ensures,
+      c.content.ensures.value,
+      c.verdict.ensures ∙ e.verdict r seen h.processed,
+      c.stray.ensures ∙ e.stray r seen h.processed,
+      c.dropped.ensures.value ∙ e.dropped r seen h.processed,
+      c.long.ensures ∙ e.long r seen h.processed,
+      c.tail.ensures ∙ e.tail r seen h.processed,
+    )
+    (sym (ap (found_after r seen) read))
+
+pub returns-in-Err-frame-clause-stopped : goal.returns-in-Err-frame-clause-stopped
+returns-in-Err-frame-clause-stopped g c =
+    let p = c.args.managed.now in
+    let view = c.in-Ok.view in
+    let read : as_read p c.args.frame.now ≡ Ok view = search rules in
+    let is : c.frame.result ≡ Err c.in-Err-frame.fault = search rules in
+    λ before h.
+    let r = reception_of p in
+    let seen = views_of (tc_format p) p.spacecraft before in
+    let had = h.processed in
+    let ne : c.in-Err-frame.fault ≢ Failed = never_failed c.args.self.now.has_failed c.frame.result c.in-Err-frame.fault is (λ e. (c.frame.ensures.left e).0) had.working in
+    rw (ap (unit_channel_of r) read, ap (ended_in r seen) read) (((c.in-Err-frame.ensures.stopped ne).1 r seen had).1)
+
+pub returns-in-Err-frame-clause-memory : goal.returns-in-Err-frame-clause-memory
+returns-in-Err-frame-clause-memory g c =
+    let p = c.args.managed.now in
+    let read : as_read p c.args.frame.now ≡ Ok c.in-Ok.view = search rules in
+    λ before h e. is_incomplete_at_last before c.args.frame.now read (c.in-Err-frame.ensures.memory e (reception_of p) (views_of (tc_format p) p.spacecraft before) h.processed)

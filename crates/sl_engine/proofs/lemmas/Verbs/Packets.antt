@@ -1,0 +1,2 @@
+-- what a sink that prints packets has written
+pub mod Printer

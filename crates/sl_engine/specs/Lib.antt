@@ -1,0 +1,10 @@
+pub mod Compare
+pub mod Engine
+pub mod Framing
+pub mod Io
+pub mod Kind
+pub mod Link
+pub mod Normalise
+pub mod Same
+pub mod Tally
+pub mod Verbs

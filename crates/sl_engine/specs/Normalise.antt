@@ -1,0 +1,4 @@
+-- What `normalise` writes.
+pub mod Form
+pub mod Tc
+pub mod Tm

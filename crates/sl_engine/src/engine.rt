@@ -1,0 +1,70 @@
+//! The engines, by what is done with a recording and by the kind of its frames.
+ghost use Rattle.std.specs.Prelude.{◌≡◌, IfOk, IfErr};
+ghost use Rattle.sl_engine.specs.Engine.{HasWritten, IsStoppedBy, MayRefuseEngineMemory, engine_frames};
+ghost use Rattle.sl_engine.specs.Framing.{MayRefuseMemoryAtSome};
+
+use crate::link::managed::Managed;
+use crate::link::totals::Totals;
+use crate::listings::{check_tc, check_tm, packets_tc, packets_tm, show_tc, show_tm};
+use crate::normalise::{normalise_tc, normalise_tm};
+use sl_io::{Counted, LinkFault};
+use std::alloc::Global;
+use std::io::{Read, Write};
+
+/// What is done with a recording.
+#[derive(Clone, Copy)]
+pub enum VerbName {
+    /// Its frames are listed.
+    Show,
+    /// Its anomalies are listed.
+    Check,
+    /// Its packets are listed.
+    Packets,
+    /// The normal form of its packets is written.
+    Normalise,
+}
+
+/// Which transfer frames a recording has.
+#[derive(Clone, Copy)]
+pub enum RecordingKind {
+    /// TM transfer frames.
+    Tm,
+    /// TC transfer frames.
+    Tc,
+}
+
+/// What is done with a recording, and which frames it has.
+pub type Engine = (VerbName, RecordingKind);
+
+/// Calls the engine of a verb and a kind: for `Show` and `Tm` [`show_tm`], and so on. The faults
+/// are the engine's; `Memory` comes where that engine may be refused memory, for `Show` never.
+pub fn run_engine<R: Read, W: Write>(
+    alloc: Global,
+    engine: Engine,
+    managed: &Managed,
+    reader: &mut Counted<R>,
+    writer: &mut Counted<W>,
+) -> Result<Totals, LinkFault>
+    // All is read, the engine's text is written and nothing else, and the totals are its counts.
+    ensures written { IfOk result (HasWritten R.remaining W.contents reader.old reader.new
+        writer.old writer.new engine managed.now) }
+    // A fault has its cause, and a prefix of the text of what was read is written.
+    ensures stopped { IfErr result (IsStoppedBy R.remaining W.contents reader.old reader.new
+        writer.old writer.new engine managed.now) }
+    // Memory is refused only where that engine may be refused it, for a listing of frames nowhere.
+    ensures memory { IfErr result (λ fault. fault ≡ LinkFault.Memory
+        → MayRefuseMemoryAtSome R.remaining reader.old reader.new
+        (engine_frames engine.1 managed.now)
+        (MayRefuseEngineMemory engine.0 engine.1 managed.now)) }
+{
+    match engine {
+        (VerbName::Show, RecordingKind::Tm) => show_tm(managed, reader, writer),
+        (VerbName::Show, RecordingKind::Tc) => show_tc(managed, reader, writer),
+        (VerbName::Check, RecordingKind::Tm) => check_tm(alloc, managed, reader, writer),
+        (VerbName::Check, RecordingKind::Tc) => check_tc(alloc, managed, reader, writer),
+        (VerbName::Packets, RecordingKind::Tm) => packets_tm(alloc, managed, reader, writer),
+        (VerbName::Packets, RecordingKind::Tc) => packets_tc(alloc, managed, reader, writer),
+        (VerbName::Normalise, RecordingKind::Tm) => normalise_tm(alloc, managed, reader, writer),
+        (VerbName::Normalise, RecordingKind::Tc) => normalise_tc(alloc, managed, reader, writer),
+    }
+}

@@ -1,5 +1,0 @@
-use Rattle.sl_link.proofs.lemmas.Io.Hexadecimal.{block_put}
-use Rattle.sl_link.proofs.io.hexadecimal.Hexadecimals.put_eight.Goals as goal
-
-pub returns : goal.returns
-returns c = block_put c.args.octets.now c.args.buffer.now _ c.args.at c.args.from 8 c.requires.inside c.requires.room c.of_eight.ensures

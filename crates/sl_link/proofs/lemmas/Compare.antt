@@ -1,9 +1,0 @@
--- Two recordings that are compared.
-pub mod Ends
-pub mod Laws
-pub mod Lost
-pub mod Signs
-pub mod Summary
-pub mod Text
-pub mod Turns
-pub mod Words

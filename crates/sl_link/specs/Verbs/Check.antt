@@ -1,6 +1,0 @@
--- What `check` lists.
-pub mod Anomaly
-pub mod Checking
-pub mod Lines
-pub mod Tc
-pub mod Tm

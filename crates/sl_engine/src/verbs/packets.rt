@@ -37,7 +37,7 @@ impl Printed for Extractor {
 
     ghost lines = { packets_tm_lines };
 
-    #[tactic(auto, using(crate::proofs::lemmas::Laws::Listed::tm_printed))]
+    #[tactic(auto, using(crate::proofs::lemmas::Verbs::Packets::Printed::tm_printed))]
     fn channel_kind() -> ChannelKind {
         ChannelKind::VirtualChannel
     }
@@ -48,7 +48,7 @@ impl Printed for Receiver {
 
     ghost lines = { packets_tc_lines };
 
-    #[tactic(auto, using(crate::proofs::lemmas::Laws::Listed::tc_printed))]
+    #[tactic(auto, using(crate::proofs::lemmas::Verbs::Packets::Printed::tc_printed))]
     fn channel_kind() -> ChannelKind {
         ChannelKind::Map
     }

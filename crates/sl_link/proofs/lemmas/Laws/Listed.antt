@@ -32,6 +32,7 @@ use Rattle.sl_engine.specs.Verbs.Packets.Tm.{packets_tm_lines, tm_packet_lines_a
 use Rattle.sl_engine.specs.Verbs.Packets.Line.{packets_listing}
 use Rattle.sl_engine.proofs.lemmas.Kind.Tc.{tc_adds_by_channel}
 use Rattle.sl_engine.proofs.lemmas.Kind.Tm.{tm_adds_by_channel}
+use Rattle.sl_engine.proofs.lemmas.Verbs.Packets.Printed.{tm_printed, tc_printed}
 
 -- ---- channel by channel
 
@@ -108,23 +109,10 @@ module _ (k : Kind) where
 
 -- ---- TM
 
-tm_lines_are : (views : List TmView) (r : Result TmView TmSkip) → tm_packet_lines_after views r ≡ lines_on VirtualChannel (vc_of r) (without_idle (tm_deliver.ended_in views r))
-tm_lines_are views r = grind arith
-
-pub tm_printed : (p : Parameters) → ArePrinted (tm_kind p) VirtualChannel (packets_tm_lines p)
-tm_printed p before frame = tm_lines_are (views_of (tm_format p) p.spacecraft before) (tm_deliver.as_read p frame)
-
 pub tm_packets_are_listed : TmPacketsAreListed
 tm_packets_are_listed p recording = packets_are_listed (tm_kind p) (tm_adds_by_channel p) VirtualChannel (packets_tm_lines p) (tm_printed p) recording
 
 -- ---- TC
-
--- the channel of a unit is named by its virtual channel and its MAP
-tc_lines_are : (r : ReceptionParameters) (views : List TcView) (read : Result TcView TcSkip) → tc_packet_lines_after r views read ≡ lines_on Map (unit_channel_of r read) (without_idle (tc_deliver.ended_in r views read))
-tc_lines_are r views read = grind (arith, small_map)
-
-pub tc_printed : (p : Parameters) → ArePrinted (tc_kind p) Map (packets_tc_lines p)
-tc_printed p before frame = tc_lines_are (reception_of p) (accepted.views_of (tc_format p) p.spacecraft before) (tc_deliver.as_read p frame)
 
 pub tc_packets_are_listed : TcPacketsAreListed
 tc_packets_are_listed p recording = packets_are_listed (tc_kind p) (tc_adds_by_channel p) Map (packets_tc_lines p) (tc_printed p) recording

@@ -10,7 +10,6 @@ ghost use Rattle.sl_engine.specs.Kind.Tc.{tc_packets};
 ghost use Rattle.sl_engine.specs.Normalise.Tc.{tc_normal_form};
 ghost use Rattle.sl_callers.specs.Forms.{KeepsLimit};
 
-use sl_link::laws::{tc_normal_forms_tell_packets, tm_normal_forms_tell_packets};
 use sl_link::{Counted, LinkFault, Managed, normalise_tc, normalise_tm};
 use std::alloc::Global;
 
@@ -29,35 +28,6 @@ pub fn have_same_tm_packets(
     let form = tm_form(alloc, managed, one)?;
     let other_form = tm_form(alloc, managed, other)?;
     Ok(form.as_slice() == other_form.as_slice())
-}
-
-/// The same, proved by the law: of the two forms only that they are normal forms is known. A
-/// `Managed` that was lent meets the premise of the law.
-pub fn tell_tm_packets(
-    alloc: Global,
-    managed: &Managed,
-    one: &[u8],
-    other: &[u8],
-) -> Result<bool, LinkFault>
-    ensures same { IfOk result (λ same. IsTrue same
-        ↔ (tm_packets managed.now one.now ≡ tm_packets managed.now other.now)) }
-    ensures within { KeepsLimit managed.now.max_octets (max (length one.now) (length other.now))
-        result }
-{
-    let form = written_tm_form(alloc, managed, one)?;
-    let other_form = written_tm_form(alloc, managed, other)?;
-    // For the proof alone: the first call gives the premise of the law, and the second the law.
-    let _ = managed.spacecraft();
-    tm_normal_forms_tell_packets();
-    Ok(form.as_slice() == other_form.as_slice())
-}
-
-// The normal form of a TM recording. The contract says nothing of packets.
-fn written_tm_form(alloc: Global, managed: &Managed, recording: &[u8]) -> Result<Vec<u8>, LinkFault>
-    ensures form { IfOk result (λ form. form.items ≡ tm_normal_form managed.now recording.now) }
-    ensures within { KeepsLimit managed.now.max_octets (length recording.now) result }
-{
-    tm_form(alloc, managed, recording)
 }
 
 /// The normal form of the normal form of a TM recording. It is the normal form of the recording: to
@@ -110,35 +80,6 @@ pub fn have_same_tc_packets(
     let form = tc_form(alloc, managed, one)?;
     let other_form = tc_form(alloc, managed, other)?;
     Ok(form.as_slice() == other_form.as_slice())
-}
-
-/// The same, proved by the law: of the two forms only that they are normal forms is known. A
-/// `Managed` that was lent meets the premise of the law.
-pub fn tell_tc_packets(
-    alloc: Global,
-    managed: &Managed,
-    one: &[u8],
-    other: &[u8],
-) -> Result<bool, LinkFault>
-    ensures same { IfOk result (λ same. IsTrue same
-        ↔ (tc_packets managed.now one.now ≡ tc_packets managed.now other.now)) }
-    ensures within { KeepsLimit managed.now.max_octets (max (length one.now) (length other.now))
-        result }
-{
-    let form = written_tc_form(alloc, managed, one)?;
-    let other_form = written_tc_form(alloc, managed, other)?;
-    // For the proof alone: the first call gives the premise of the law, and the second the law.
-    let _ = managed.spacecraft();
-    tc_normal_forms_tell_packets();
-    Ok(form.as_slice() == other_form.as_slice())
-}
-
-// The normal form of a TC recording. The contract says nothing of packets.
-fn written_tc_form(alloc: Global, managed: &Managed, recording: &[u8]) -> Result<Vec<u8>, LinkFault>
-    ensures form { IfOk result (λ form. form.items ≡ tc_normal_form managed.now recording.now) }
-    ensures within { KeepsLimit managed.now.max_octets (length recording.now) result }
-{
-    tc_form(alloc, managed, recording)
 }
 
 /// The normal form of the normal form of a TC recording. It is the normal form of the recording: to

@@ -3,7 +3,6 @@ use crate::support::recordings::{TC_FRAME, TM_FRAME};
 use crate::support::rows::{Stop, passes};
 use sl_callers::forms::{
     have_same_tc_packets, have_same_tm_packets, normalise_tc_twice, normalise_tm_twice,
-    tell_tc_packets, tell_tm_packets,
 };
 use sl_link::{LinkFault, Managed};
 use std::alloc::Global;
@@ -33,16 +32,11 @@ fn link() -> Result<Managed, Stop> {
     Managed::new(1, 32, false, 16, false, 10, 0, 100).or(Err(Stop::Absent))
 }
 
-// The six callers, without their contracts: whether another recording has the same packets, and
+// The four callers, without their contracts: whether another recording has the same packets, and
 // whether a recording that is normalised twice becomes these octets.
 fn is_same_tm(alloc: Global, other: &[u8]) -> Result<bool, Stop> {
     let link = link()?;
     Ok(have_same_tm_packets(alloc, &link, &TM_FRAME, other)?)
-}
-
-fn is_told_tm(alloc: Global, other: &[u8]) -> Result<bool, Stop> {
-    let link = link()?;
-    Ok(tell_tm_packets(alloc, &link, &TM_FRAME, other)?)
 }
 
 fn becomes_tm(alloc: Global, form: &[u8]) -> Result<bool, Stop> {
@@ -55,29 +49,22 @@ fn is_same_tc(alloc: Global, other: &[u8]) -> Result<bool, Stop> {
     Ok(have_same_tc_packets(alloc, &link, &TC_FRAME, other)?)
 }
 
-fn is_told_tc(alloc: Global, other: &[u8]) -> Result<bool, Stop> {
-    let link = link()?;
-    Ok(tell_tc_packets(alloc, &link, &TC_FRAME, other)?)
-}
-
 fn becomes_tc(alloc: Global, form: &[u8]) -> Result<bool, Stop> {
     let link = link()?;
     Ok(normalise_tc_twice(alloc, &link, &TC_BYPASSING)?.as_slice() == form)
 }
 
-// Whether all six refuse a recording over the limit, as the second where they take two.
+// Whether all four refuse a recording over the limit, as the second where they take two.
 fn is_too_long(alloc: Global) -> Result<bool, Stop> {
     let link = link()?;
     let long = [0; 101];
     let outcomes = [
         have_same_tm_packets(alloc, &link, &TM_FRAME, &long).err(),
-        tell_tm_packets(alloc, &link, &TM_FRAME, &long).err(),
         normalise_tm_twice(alloc, &link, &long).err(),
         have_same_tc_packets(alloc, &link, &TC_FRAME, &long).err(),
-        tell_tc_packets(alloc, &link, &TC_FRAME, &long).err(),
         normalise_tc_twice(alloc, &link, &long).err(),
     ];
-    Ok(outcomes == [Some(LinkFault::TooLong); 6])
+    Ok(outcomes == [Some(LinkFault::TooLong); 4])
 }
 
 #[test]
@@ -86,14 +73,10 @@ fn callers_tell_packets_by_normal_forms(rt: HostRuntime) {
     let rows = [
         ("a TM packet again", is_same_tm(alloc, &TM_FILLED), true),
         ("another TM packet", is_same_tm(alloc, &TM_OTHER), false),
-        ("TM by the law", is_told_tm(alloc, &TM_FILLED), true),
-        ("other TM by the law", is_told_tm(alloc, &TM_OTHER), false),
         ("TM normalised twice", becomes_tm(alloc, &TM_FRAME), true),
         ("TM not normalised", becomes_tm(alloc, &TM_FILLED), false),
         ("a TC packet again", is_same_tc(alloc, &TC_BYPASSING), true),
         ("another TC packet", is_same_tc(alloc, &TC_OTHER), false),
-        ("TC by the law", is_told_tc(alloc, &TC_BYPASSING), true),
-        ("other TC by the law", is_told_tc(alloc, &TC_OTHER), false),
         ("TC normalised twice", becomes_tc(alloc, &TC_FRAME), true),
         ("TC not normalised", becomes_tc(alloc, &TC_BYPASSING), false),
         ("a recording over the limit", is_too_long(alloc), true),

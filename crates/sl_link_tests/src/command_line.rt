@@ -260,12 +260,7 @@ fn help_says_what_a_run_takes_and_gives(rt: HostRuntime) -> Result<(), Stop> {
 // What comes after a verb and its sentence, if only blanks are between these two.
 fn after<'a>(said: &'a str, verb: &str, about: &str) -> Option<&'a str> {
     let (_, behind) = said.split_once(verb)?;
-    let (between, after) = behind.split_once(about)?;
-    if between.trim().is_empty() {
-        Some(after)
-    } else {
-        None
-    }
+    behind.trim_start().strip_prefix(about)
 }
 
 // Whether all verbs are named, in this order.

@@ -18,6 +18,8 @@ pub mod KeptLemmas
 pub mod PacketFacts
 -- packets, and the fields in their first octets
 pub mod PacketLemmas
+-- what six octets and a number tell
+pub mod OutlineLemmas
 -- the packets at the front of octets
 pub mod PacketsLemmas
 -- kept lists, and an empty one for each channel after them

@@ -3,6 +3,7 @@ pub mod DeliveredModel
 pub mod Front
 pub mod IdlePacket
 pub mod KeptLists
+pub mod Outline
 pub mod Packet
 pub mod Packets
 pub mod PacketsModel

@@ -153,3 +153,51 @@ module _ {S : Type 0} (taking : S → ℕ → List ℕ → S → Type 0) where
             idle = handed.idle_count ∙ ap (λ xs. length (only_idle xs)) (sym all);
             rest = sym (handed.rest ∙ rest_of-none left none);
           }
+
+-- ---- counts alone, of a sink that accepts each packet
+
+abbrev pub accepts : ℕ → ℕ → List ℕ → ℕ → Type 0
+accepts old channel packet new = old ≡ old
+
+-- the first packets of the octets are counted, and the octets `left` are left
+pub record HasCounted (octets left : List ℕ) (packets idle : ℕ) : Type 0 where
+  pub handed : HasHanded accepts (λ sink. 0) 0 0 octets left 0 packets idle
+
+pub counted_none : (octets : List ℕ) → HasCounted octets octets 0 0
+counted_none octets =
+    record {
+      handed = record {
+        done = [];
+        in_order = refl;
+        rest = refl;
+        takes = refl;
+        kept = refl;
+        due_count = refl;
+        idle_count = refl;
+        room = omega arith;
+      };
+    }
+
+pub counted_room : {octets left : List ℕ} {packets idle : ℕ} → HasCounted octets left packets idle → packets + idle + length left ≤ length octets
+counted_room counted = counted.handed.room
+
+module _ (octets left : List ℕ) (packets idle : ℕ) (counted : HasCounted octets left packets idle) (packet : List ℕ) (first : first_packet_of left ≡ Some packet) where
+  pub counted_idle : (joined : List ℕ) → joined ≡ left → is_idle_packet packet ≡ true
+      → HasCounted octets (take (length joined - length packet) (drop (length packet) joined)) packets (idle + 1)
+  counted_idle joined same is_idle =
+      record {
+        handed = handed_at accepts (λ sink. 0) 0 0 octets left joined (length packet) 0 0 packets packets (idle + 1) (idle + 1) same refl refl refl
+            (handed_idle accepts (λ sink. 0) 0 0 octets left 0 packets idle counted.handed packet first is_idle);
+      }
+
+  pub counted_due : (joined : List ℕ) → joined ≡ left → is_idle_packet packet ≡ false
+      → HasCounted octets (take (length joined - length packet) (drop (length packet) joined)) (packets + 1) idle
+  counted_due joined same is_due =
+      record {
+        handed = handed_at accepts (λ sink. 0) 0 0 octets left joined (length packet) 0 0 (packets + 1) (packets + 1) idle idle same refl refl refl
+            (handed_due accepts (λ sink. 0) 0 0 octets left 0 packets idle counted.handed packet 0 first is_due refl refl);
+      }
+
+pub counted_all : (octets left : List ℕ) (packets idle : ℕ) → HasCounted octets left packets idle → first_packet_of left ≡ None
+    → HasHandedAll accepts 0 0 octets left 0 packets idle
+counted_all octets left packets idle counted none = handed_all accepts (λ sink. 0) 0 0 octets left 0 packets idle counted.handed none

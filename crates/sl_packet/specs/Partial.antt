@@ -1,5 +1,5 @@
 -- What octets lack for a whole space packet, CCSDS 133.0-B, at their front.
-use Rattle.std.specs.Prelude.{◌≡◌, ◌↔◌, ℕ, ◌+◌, ◌-◌, nat_lt, if◌then◌else◌, List, ◌++◌, length}
+use Rattle.std.specs.Prelude.{◌≡◌, ◌↔◌, ◌⊎◌, ℕ, ◌+◌, ◌-◌, nat_lt, if◌then◌else◌, List, ◌++◌, length}
 use Rattle.sl_packet.specs.Packet.{IsPacket, stated_packet_len}
 use Rattle.sl_packet.specs.Front.{front_of, is_foreign}
 use Rattle.sl_packet.specs.Front as fronts
@@ -15,6 +15,10 @@ need_of octets =
     else if nat_lt (length octets) 6 then Header (6 - length octets)
     else if nat_lt (length octets) (stated_packet_len octets) then Octets (stated_packet_len octets - length octets)
     else Whole (stated_packet_len octets)
+
+-- octets with this need are the front of a packet, and aren't a whole one
+abbrev pub LacksOctets : Need → Type 0
+LacksOctets need = ((n : ℕ) × (need ≡ Header n)) ⊎ ((n : ℕ) × (need ≡ Octets n))
 
 -- ---- laws
 

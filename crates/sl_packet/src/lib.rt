@@ -25,7 +25,7 @@ pub use flow_fault::FlowFault;
 pub use idle::{is_idle, push_idle};
 pub use outline::Outline;
 pub use packet::{first_packet, need};
-pub use packets::Packets;
+pub use packets::{Packets, count_packets};
 pub use partial::Need;
 pub use reassembly::{LONGEST_PACKET, add_part, give_back};
 pub use sink::{HandedOver, PacketSink, SinkFault, hand_over};

@@ -1,10 +1,9 @@
 //! Octets of which only the number and the first six are kept. These tell what the octets begin
 //! with.
-ghost use Rattle.std.specs.Prelude.{◌≡◌, ◌⊎◌, ◌+◌, ◌^◌, ◌<◌, ◌++◌, ℕ, List, [], length, take};
+ghost use Rattle.std.specs.Prelude.{◌≡◌, ◌+◌, ◌^◌, ◌<◌, ◌++◌, ℕ, List, [], length, take};
 ghost use Rattle.sl_packet.specs.Outline.{HasOutline};
 ghost use Rattle.sl_packet.specs.Packet.{is_idle_packet, longest_packet};
-ghost use Rattle.sl_packet.specs.Partial.{need_of};
-ghost use Rattle.sl_packet.specs.declared.partial.Need.{Need};
+ghost use Rattle.sl_packet.specs.Partial.{LacksOctets, need_of};
 
 use crate::idle::is_idle;
 use crate::packet::need;
@@ -61,12 +60,12 @@ impl Outline {
     pub fn need(&self) -> Need
         ensures need { (octets : List ℕ) → HasOutline octets self.now → result ≡ need_of octets }
         // Octets that lack something are fewer than the longest packet has.
-        ensures short { (n : ℕ) → (result ≡ Need.Header n) ⊎ (result ≡ Need.Octets n)
-            → self.now.octets < longest_packet }
+        ensures short { LacksOctets result → self.now.octets < longest_packet }
     {
         if self.octets < 6 {
             return need(&self.header[..self.octets as usize]);
         }
+        // What the header lacks, less the octets after it.
         let more = self.octets - 6;
         match need(&self.header) {
             Need::Octets(wanted) if more < wanted => Need::Octets(wanted - more),

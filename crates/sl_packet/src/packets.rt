@@ -1,9 +1,11 @@
 //! The packets that lie end to end at the front of octets.
-ghost use Rattle.std.specs.Prelude.{◌≡◌};
+ghost use Rattle.std.specs.Prelude.{◌≡◌, length};
 ghost use Rattle.std.specs.Iterator.{item_count};
-ghost use Rattle.sl_packet.specs.Packets.{packets_of, GivesPacket};
+ghost use Rattle.sl_packet.specs.Packets.{packets_of, rest_of, only_idle, without_idle, GivesPacket};
 
+use crate::idle::is_idle;
 use crate::packet::first_packet;
+use crate::sink::HandedOver;
 use std::marker::Model;
 
 /// An iterator over the space packets (CCSDS 133.0-B) that lie end to end at the front of octets,
@@ -58,4 +60,28 @@ impl<'a> Iterator for Packets<'a> {
         self.rest = &self.rest[packet.len()..];
         Some(packet)
     }
+}
+
+/// Counts the space packets (CCSDS 133.0-B) that lie end to end at the front of the octets, as
+/// [`hand_over`](crate::hand_over) counts them for a sink that accepts each packet.
+#[inline(always)]
+pub fn count_packets<'a>(octets: &'a [u8]) -> HandedOver<'a>
+    ensures packets { result.packets ≡ length (without_idle (packets_of octets.now)) }
+    ensures idle { result.idle ≡ length (only_idle (packets_of octets.now)) }
+    ensures remainder { result.remainder.now ≡ rest_of octets.now }
+{
+    let mut counted = HandedOver {
+        packets: 0,
+        idle: 0,
+        remainder: octets,
+    };
+    while let Some(packet) = first_packet(counted.remainder) {
+        if is_idle(packet) {
+            counted.idle += 1;
+        } else {
+            counted.packets += 1;
+        }
+        counted.remainder = &counted.remainder[packet.len()..];
+    }
+    counted
 }

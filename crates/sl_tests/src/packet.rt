@@ -5,8 +5,8 @@ use crate::support::packets::longest;
 use crate::support::recordings::{LEAST, TELEMETRY};
 use crate::support::rows::{Stop, holds, is_text, passes};
 use sl_packet::{
-    FlowFault, Need, Packets, SinkFault, add_part, first_packet, give_back, is_idle, need,
-    push_idle,
+    FlowFault, Need, Outline, Packets, SinkFault, add_part, count_packets, first_packet, give_back,
+    is_idle, need, push_idle,
 };
 
 // An idle packet with ten octets of data.
@@ -143,6 +143,34 @@ fn packets_lie_end_to_end(rt: HostRuntime) {
     for (octets, packets, rest) in &SERIES {
         holds(&rt, octets, are_next(octets, packets, rest));
         holds(&rt, octets, are_given(octets, packets));
+    }
+}
+
+#[test]
+fn packets_end_to_end_are_counted(rt: HostRuntime) {
+    let counted = count_packets(&OCTETS);
+    let is_counted = (counted.packets, counted.idle) == (2, 1);
+    holds(&rt, &counted, is_counted && counted.remainder == REST.as_slice());
+}
+
+// Whether the outlines of octets, as a whole and in two parts, answer what the octets do.
+fn are_outlined(octets: &[u8], at: usize, wanted: Need) -> Result<bool, Stop> {
+    let (front, behind) = octets.split_at_checked(at).ok_or(Stop::Absent)?;
+    if octets.len() > 65542 || front.len() > 65542 || behind.len() > 65542 {
+        return Err(Stop::Absent);
+    }
+    let whole = Outline::of(octets);
+    let joined = Outline::none().plus(front).plus(behind);
+    let is_need = whole.need() == wanted && joined.need() == wanted;
+    Ok(is_need && joined.is_idle() == is_idle(octets) && joined.octets == whole.octets)
+}
+
+#[test]
+fn outlines_answer_what_their_octets_do(rt: HostRuntime) {
+    for (octets, wanted) in &NEEDS {
+        for at in 0..=octets.len() {
+            passes(&rt, octets, are_outlined(octets, at, *wanted));
+        }
     }
 }
 

@@ -6,9 +6,9 @@ use crate::support::packets::{has, none};
 use crate::support::recordings::{TELEMETRY, TM_FRAME};
 use crate::support::rows::{Stop, holds, passes};
 use crate::support::sinks::Counts;
-use crate::support::tm::{ended, extractor, held, is_form, step_of};
+use crate::support::tm::{ended, extractor, frame, held, is_form, shape, step_of};
 use sl_packet::{Delivered, PacketSink};
-use sl_tmflow::Extractor;
+use sl_tmflow::{Extractor, PacketCounter, TmStep};
 use std::alloc::Global;
 
 // A packet of 23 octets.
@@ -149,13 +149,18 @@ fn packets_of_frames_and_their_normal_form(rt: HostRuntime) {
     }
 }
 
+// Whether this is the report of a row.
+fn is_of_row(step: TmStep, row: &Row) -> bool {
+    let (_, anomalies, counts, _) = row;
+    let is_reported = (step.gap(), step.dropped(), step.foreign()) == *anomalies;
+    is_reported && (step.packets(), step.idle()) == *counts
+}
+
 // Whether the report on a frame is that of its row.
 fn is_told(extractor: &mut Extractor, sink: &mut Delivered, row: &Row) -> Result<bool, Stop> {
-    let (frame, anomalies, counts, octets) = row;
+    let (frame, _, _, octets) = row;
     let step = step_of(extractor, frame, sink)?;
-    let is_reported = (step.gap(), step.dropped(), step.foreign()) == *anomalies;
-    let is_counted = (step.packets(), step.idle()) == *counts;
-    Ok(is_reported && is_counted && held(extractor, 0) == *octets && held(extractor, 1) == 0)
+    Ok(is_of_row(step, row) && held(extractor, 0) == *octets && held(extractor, 1) == 0)
 }
 
 #[test]
@@ -164,6 +169,21 @@ fn anomalies_of_a_frame_are_reported(rt: HostRuntime) {
     let mut delivered = none(rt.alloc());
     for row in &ANOMALIES {
         passes(&rt, row, is_told(&mut extractor, &mut delivered, row));
+    }
+}
+
+// Whether a counter's report on a frame is that of its row.
+fn is_counted(counter: &mut PacketCounter, row: &Row) -> Result<bool, Stop> {
+    let (octets, _, _, held) = row;
+    let step = counter.frame(&frame(&shape(32, false)?, *octets)?);
+    Ok(is_of_row(step, row) && counter.held(0) == *held && counter.held(1) == 0)
+}
+
+#[test]
+fn a_counter_reports_what_an_extractor_does(rt: HostRuntime) {
+    let mut counter = PacketCounter::new();
+    for row in &ANOMALIES {
+        passes(&rt, row, is_counted(&mut counter, row));
     }
 }
 

@@ -9,6 +9,8 @@ pub mod Form
 pub mod Incomplete
 -- what is still delivered where frames are lost
 pub mod Loss
+-- counting by outlines
+pub mod Outline
 -- the elements of a list, and their places
 pub mod Places
 -- what frames deliver where others stand between them

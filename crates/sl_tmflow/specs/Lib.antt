@@ -1,6 +1,7 @@
 pub mod Among
 pub mod Anomaly
 pub mod Channel
+pub mod Counter
 pub mod Delivery
 pub mod Extractor
 pub mod ExtractorModel
@@ -20,6 +21,7 @@ pub mod StepReportModel
 pub mod VirtualChannel
 pub use Rattle.sl_packet.specs.Delivered
 pub use Rattle.sl_packet.specs.Front
+pub use Rattle.sl_packet.specs.Outline
 pub use Rattle.sl_packet.specs.Packet
 pub use Rattle.sl_packet.specs.Packets
 pub use Rattle.sl_packet.specs.Sink

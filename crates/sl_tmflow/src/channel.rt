@@ -7,13 +7,14 @@ ghost use Rattle.sl_tmframe.specs.TmField.{as_content};
 ghost use Rattle.sl_tmframe.specs.TmFrame.{IsFieldInRange, Packets, longest_field};
 ghost use Rattle.sl_tmflow.specs.Anomaly.{gap_after};
 ghost use Rattle.sl_tmflow.specs.Channel.{broken_in, octets_dropped, foreign_in, held_at_field_end};
-ghost use Rattle.sl_tmflow.specs.Channel.{held_before_starts, octets_held, incomplete_in, is_after, new_channel};
+ghost use Rattle.sl_tmflow.specs.Channel.{held_before_starts, octets_held, incomplete_in, new_channel};
 ghost use Rattle.sl_tmflow.specs.Channel.{packets_ended, channel_after, continuation_in};
 ghost use Rattle.sl_tmflow.specs.Delivery.{ended, field_continuation};
 ghost use Rattle.sl_tmflow.specs.Incomplete.{longest_incomplete};
 ghost use Rattle.sl_tmflow.specs.PacketStart.{whole_packets};
 ghost use Rattle.sl_tmflow.specs.StepReport.{counts_of};
 
+use crate::frame_count::{gap_after, is_after};
 use crate::hand_over::{hand, hand_packet};
 use crate::packet_octets::PacketOctets;
 use crate::progress::{Progress, add_field};
@@ -80,7 +81,7 @@ impl Channel {
         ensures memory { IfErr result (λ flow. flow ≡ FlowFault.Memory
             → (self.old.state.held ≢ []) ⊎ ((channel_after self.old.state frame.now).held ≢ [])) }
     {
-        let gap = self.gap_at(frame.vc_count());
+        let gap = gap_after(self.count, frame.vc_count());
         // The packet that was incomplete before the frame comes first, then those that start in it.
         // `match` and not `?`, here and below: `?` converts the fault, and each clause that says
         // which fault it is would then have to be proved by hand.
@@ -110,18 +111,6 @@ impl Channel {
         self.held.len() as u32
     }
 
-    // The count that was expected, if `count` is another one. `None` if it isn't, and where no
-    // frame came before.
-    fn gap_at(&self, count: u8) -> Option<u8>
-        ensures { result ≡ gap_after self.now.state.count count }
-    {
-        if self.is_followed_by(count) {
-            None
-        } else {
-            Some(self.count?.wrapping_add(1))
-        }
-    }
-
     // Goes on with the incomplete packet, if there is one: the packet ends in the frame, goes on
     // past the frame or is broken off. The report is on this packet alone.
     fn continue_packet<S: PacketSink>(
@@ -144,7 +133,7 @@ impl Channel {
         // Memory is refused only where a packet is incomplete before the frame.
         ensures memory { IfErr result (λ flow. flow ≡ FlowFault.Memory → self.old.state.held ≢ []) }
     {
-        if self.held.is_empty() || !self.is_followed_by(frame.vc_count()) {
+        if self.held.is_empty() || !is_after(self.count, frame.vc_count()) {
             return Ok(self.break_off());
         }
         match frame.field() {
@@ -173,17 +162,6 @@ impl Channel {
         TmStep {
             dropped,
             ..EMPTY_STEP
-        }
-    }
-
-    // Whether a frame with this count follows the last frame. No frame follows where there was none
-    // before.
-    fn is_followed_by(&self, count: u8) -> bool
-        ensures { result ≡ is_after self.now.state.count count }
-    {
-        match self.count {
-            Some(last) => count == last.wrapping_add(1),
-            None => false,
         }
     }
 
@@ -305,9 +283,9 @@ impl Channel {
     }
 }
 
-// The octets, where they are the front of a packet that isn't there whole, and otherwise no octets.
-// Then whether there is a first octet, and the packet version in it is another one than 0.
-fn read_remainder(octets: &[u8]) -> (&[u8], bool)
+/// The octets, where they are the front of a packet that isn't there whole, and otherwise no octets.
+/// Then whether there is a first octet, and the packet version in it is another one than 0.
+pub(crate) fn read_remainder(octets: &[u8]) -> (&[u8], bool)
     ensures incomplete { result.0.now ≡ incomplete_in (front_of octets.now) octets.now }
     ensures foreign { result.1 ≡ is_foreign octets.now }
 {

@@ -9,12 +9,16 @@
 //! a [`TmShape`](sl_tmframe::TmShape); clauses call its value a `TmFormat`.
 #![tactic(auto)]
 
-// From the bottom: `packet_octets`, `report`, `hand_over`, `progress`, `channel` and `extractor`
-// take packets out of frames; `form` and `reframe` write frames, with `packet_octets`. What is
-// `pub` in them is public; specs call all other functions private.
+// From the bottom: `packet_octets`, `report`, `frame_count`, `hand_over`, `progress`, `channel` and
+// `extractor` take packets out of frames; `channel_outline` and `counter` count them; `form` and
+// `reframe` write frames, with `packet_octets`. What is `pub` in them is public; specs call all
+// other functions private.
 mod channel;
+mod channel_outline;
+mod counter;
 mod extractor;
 mod form;
+mod frame_count;
 mod hand_over;
 pub mod laws;
 mod packet_octets;
@@ -22,6 +26,7 @@ mod progress;
 mod reframe;
 mod report;
 
+pub use counter::PacketCounter;
 pub use extractor::Extractor;
 pub use form::TmForm;
 pub use reframe::reframe_tm;

@@ -1,7 +1,8 @@
 //! What the next frame of packets does to an incomplete packet, and which first header pointer
 //! agrees with that packet. In clauses this is a `Continuation`.
-ghost use Rattle.std.specs.Prelude.{◌≡◌, ◌≤◌, ◌<◌, ◌+◌, ◌^◌, ◌++◌, ℕ, length, take, IfOk, OnErr};
+ghost use Rattle.std.specs.Prelude.{◌≡◌, ◌≤◌, ◌<◌, ◌+◌, ◌^◌, ◌++◌, ℕ, List, length, take, IfOk, OnErr};
 ghost use Rattle.sl_packet.specs.Front.{front_of};
+ghost use Rattle.sl_packet.specs.Partial.{LacksOctets, need_of};
 ghost use Rattle.sl_tmframe.specs.TmFrame.{Packets, longest_field};
 ghost use Rattle.sl_tmflow.specs.Delivery.{agreeing_pointer, field_continuation, front_continuation};
 ghost use Rattle.sl_tmflow.specs.Incomplete.{longest_incomplete};
@@ -81,9 +82,23 @@ fn progress_in(octets: &[u8], before: usize, field: &PacketOctets) -> Progress
     ensures inside { (len : ℕ) → result ≡ Progress.Ends len → len ≤ length octets.now }
     ensures short { result ≡ Progress.Continues → length octets.now ≤ longest_incomplete }
 {
+    progress_of(need(octets), before, field)
+}
+
+/// What the frame with this data field does to an incomplete packet. `need` is what its octets
+/// need: `before` octets from earlier frames, and then those of the field.
+#[inline(always)]
+pub(crate) fn progress_of(need: Need, before: usize, field: &PacketOctets) -> Progress
+    requires { before + length field.now.octets.now < 2 ^ 64 }
+    ensures continuation { (octets : List ℕ) → need ≡ need_of octets
+        → progress_continuation result octets ≡ front_continuation
+        field.now.first before field.now.octets.now octets (front_of octets) }
+    ensures whole { (len : ℕ) → result ≡ Progress.Ends len → need ≡ Need.Whole len }
+    ensures short { result ≡ Progress.Continues → LacksOctets need }
+{
     let pointer = field.first;
     let field = field.octets;
-    match need(octets) {
+    match need {
         // Not of an incomplete packet. The contract speaks of any octets.
         Need::Foreign => Progress::Breaks,
         Need::Header(_) | Need::Octets(_) if pointer.is_some() => Progress::Breaks,

@@ -1,10 +1,10 @@
-//! The report of an extractor on one frame.
+//! The report of an extractor, or of a counter, on one frame.
 ghost use Rattle.std.specs.Prelude.{◌≡◌, ◌≤◌};
 
 use std::marker::Model;
 
-/// The report of an [`Extractor`](crate::Extractor) on one frame: the packets that end in the
-/// frame, and the anomalies at the frame.
+/// The report of an [`Extractor`](crate::Extractor) or a [`PacketCounter`](crate::PacketCounter) on
+/// one frame: the packets that end in the frame, and the anomalies at the frame.
 #[derive(Clone, Copy, Debug, PartialEq, Eq)]
 pub struct TmStep {
     pub(crate) packets: u32,

@@ -93,7 +93,7 @@ gap_seen state channel next seen = ap (λ c. gap_after c next.vc_count) (sym see
 
 -- ---- the octets that are held
 
-held_octets : (held : List ℕ) → concat (held_as held) ≡ held
+pub held_octets : (held : List ℕ) → concat (held_as held) ≡ held
 held_octets held = grind (arith, append-nil)
 
 pub held_seen : (state : ChannelState) (channel : List TmView) → HasSeen state channel → length state.held ≡ length (concat (incomplete_of channel))

@@ -1,5 +1,5 @@
-use Rattle.std.proofs.Common.{◌+◌, length, take, rules, ◌∙◌, ap, arith, ◌++◌}
-use Rattle.std.proofs.lemmas.Slice.{take-put_mid, overwrites}
+use Rattle.std.proofs.Common.{rules, arith}
+use Rattle.std.proofs.lemmas.Slice.{overwrites}
 use Rattle.sl_packet.proofs.OutlineLemmas.{length_put, filled_six, whole_six}
 use Rattle.sl_packet.proofs.outline.filled.Goals as goal
 

@@ -34,6 +34,16 @@ use weave::weave;
 /// The most octets that both recordings may have: fewer than 2^31 frames of 32 octets.
 const MOST_OCTETS: usize = 1 << 36;
 
+/// How orders are looked for, one after another: with what care, and whether the frames of both at
+/// either end of the recordings are parted.
+const ATTEMPTS: [(Care, bool); 5] = [
+    (Care::Likeliest, false),
+    (Care::ByPosition, false),
+    (Care::ByPosition, true),
+    (Care::LeaveOut, false),
+    (Care::LeaveOut, true),
+];
+
 /// The order that was found, and what of it is a guess.
 #[derive(Debug, Drop)]
 pub struct Order {
@@ -103,8 +113,8 @@ pub fn find_order<S: BuildHasher + Copy>(
         seconds: seen_frames(alloc, shape, spacecraft, &both.other)?,
     };
     set_anchors(alloc, hasher, &both, &mut frames)?;
-    set_positions(alloc, &mut frames)?;
-    for care in [Care::Likeliest, Care::ByPosition, Care::LeaveOut] {
+    for (care, parts) in ATTEMPTS {
+        set_positions(alloc, &mut frames, parts)?;
         let mut choices = Choices::none();
         let lanes = order_lanes(alloc, &both, &mut frames, care, &mut choices)?;
         if let Some(fates) = weave(alloc, &frames, &lanes)? {

@@ -114,6 +114,7 @@ pub fn find_order<S: BuildHasher + Copy>(
     };
     set_anchors(alloc, hasher, &both, &mut frames)?;
     for (care, parts) in ATTEMPTS {
+        frames.put_back();
         set_positions(alloc, &mut frames, parts)?;
         let mut choices = Choices::none();
         let lanes = order_lanes(alloc, &both, &mut frames, care, &mut choices)?;

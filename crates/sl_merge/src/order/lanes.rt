@@ -20,6 +20,22 @@ pub(crate) struct Frames {
     pub seconds: Vec<Seen>,
 }
 
+impl Frames {
+    /// Leaves no frame out but those that are skipped or repeats.
+    pub fn put_back(&mut self) {
+        put_back(&mut self.firsts);
+        put_back(&mut self.seconds);
+    }
+}
+
+fn put_back(frames: &mut [Seen]) {
+    for seen in frames.iter_mut() {
+        if seen.role == Role::LeftOut {
+            seen.role = Role::Stands;
+        }
+    }
+}
+
 /// For how many stretches something was chosen.
 #[derive(Clone, Copy, Debug, PartialEq, Eq)]
 pub(crate) struct Choices {
@@ -61,8 +77,6 @@ pub(crate) fn order_lanes(
     care: Care,
     choices: &mut Choices,
 ) -> Result<Vec<Vec<Fate>>, AllocError> {
-    put_back(&mut frames.firsts);
-    put_back(&mut frames.seconds);
     let mut lanes = Vec::new(alloc);
     for vc in 0..CHANNELS {
         let firsts = marks_on(alloc, &frames.firsts, vc)?;
@@ -76,15 +90,6 @@ pub(crate) fn order_lanes(
         lanes.push(lane_of(alloc, frames, (&firsts, &seconds), order.as_slice())?)?;
     }
     Ok(lanes)
-}
-
-// No frame is left out but those that are skipped or repeats.
-fn put_back(frames: &mut [Seen]) {
-    for seen in frames.iter_mut() {
-        if seen.role == Role::LeftOut {
-            seen.role = Role::Stands;
-        }
-    }
 }
 
 // The fates of the frames of a channel.

@@ -43,7 +43,7 @@ pub(crate) fn choose(
     order: &mut Vec<Fate>,
 ) -> Result<Choice, AllocError> {
     match (care, known) {
-        (Care::ByPosition | Care::LeaveOut, Known::Sure) if stretch.has_open_end() => {}
+        (_, Known::Sure | Known::Idle) if stretch.has_open_end() && care != Care::Likeliest => {}
         (_, Known::Sure) => return Ok(Choice::Nothing),
         (Care::LeaveOut, _) if may_leave_out => return leave_out(stretch, order),
         (Care::LeaveOut, _) | (_, Known::Undecided) | (Care::ByPosition, Known::Open) => {}

@@ -1,5 +1,5 @@
 //! Which packets only one of two recordings delivers.
-ghost use Rattle.std.specs.Prelude.{◌≡◌, ◌⊎◌, ◌<◌, ◌-◌, [], ℕ, List, ⊤, IfOk, IfErr, IfSome, IfNone, OnOk, true, false};
+ghost use Rattle.std.specs.Prelude.{◌≡◌, ◌⊎◌, ◌<◌, ◌-◌, ℕ, List, ⊤, IfOk, IfErr, IfSome, IfNone, OnOk, true, false};
 ghost use Rattle.sl_tcframe.specs.TcDelimited.{tc_frames_of};
 ghost use Rattle.sl_tmframe.specs.TmDelimited.{tm_frames_of};
 ghost use Rattle.sl_engine.specs.Compare.{Compares, ReadsBeginning};
@@ -13,7 +13,7 @@ ghost use Rattle.sl_engine.specs.Io.Streams.{StopsReading, StopsWriting, WritesT
 ghost use Rattle.sl_engine.specs.Kind.Delivery.{MayRefuseStoreMemory, packets_by_channel};
 ghost use Rattle.sl_engine.specs.Kind.Tc.{MayRefuseStoreMemoryTc, tc_packets};
 ghost use Rattle.sl_engine.specs.Kind.Tm.{MayRefuseStoreMemoryTm, tm_packets};
-ghost use Rattle.sl_engine.specs.Link.Managed.{Parameters, tc_format};
+ghost use Rattle.sl_engine.specs.Link.Managed.{tc_format};
 ghost use Rattle.sl_engine.specs.Verbs.Check.Lines.{anomalies_by};
 ghost use Rattle.sl_engine.specs.Framing.{MayRefuseMemoryAtSome, chunk_size};
 
@@ -23,16 +23,14 @@ mod text;
 mod turns;
 mod words;
 
-use crate::framing::{CHUNK_SIZE, Framer};
+use crate::framing::CHUNK_SIZE;
 use crate::link::managed::Managed;
 use crate::verbs::packets::printer::ChannelKind;
 pub use signs::Signs;
 use sl_io::{Counted, LinkFault};
 use sl_pair::{Answer, Pairing, Station};
 use sl_tcflow::Receiver;
-use sl_tcframe::TcFramer;
 use sl_tmflow::Extractor;
-use sl_tmframe::TmFramer;
 use std::alloc::Global;
 use std::hash::BuildHasher;
 use std::io::{Read, Write};
@@ -87,19 +85,7 @@ pub fn compare_tm<A: Read, B: Read, S: BuildHasher + Copy>(
         ⊎ MayRefuseMemoryAtSome B.remaining other.old other.new
         (tm_frames_of other_managed.now.tm_length) (MayRefuseStoreMemoryTm other_managed.now)) }
 {
-    let framers = (
-        TmFramer::new(&one_managed.tm),
-        TmFramer::new(&other_managed.tm),
-    );
-    compare::<Extractor, TmFramer, A, B, S>(
-        alloc,
-        hasher,
-        framers,
-        one_managed,
-        one,
-        other_managed,
-        other,
-    )
+    compare::<Extractor, A, B, S>(alloc, hasher, one_managed, one, other_managed, other)
 }
 
 /// Reads two recordings of TC transfer frames to their ends, in turns, and answers which packets
@@ -134,19 +120,7 @@ pub fn compare_tc<A: Read, B: Read, S: BuildHasher + Copy>(
         ⊎ MayRefuseMemoryAtSome B.remaining other.old other.new
         (tc_frames_of (tc_format other_managed.now)) (MayRefuseStoreMemoryTc other_managed.now)) }
 {
-    let framers = (
-        TcFramer::new(&one_managed.tc),
-        TcFramer::new(&other_managed.tc),
-    );
-    compare::<Receiver, TcFramer, A, B, S>(
-        alloc,
-        hasher,
-        framers,
-        one_managed,
-        one,
-        other_managed,
-        other,
-    )
+    compare::<Receiver, A, B, S>(alloc, hasher, one_managed, one, other_managed, other)
 }
 
 /// Writes what only one of two recordings of TM transfer frames delivers, by virtual channel,
@@ -199,18 +173,14 @@ pub fn write_difference_tc<S: BuildHasher + Copy, W: Write>(
 // Reads two recordings to their ends, in turns, and answers which packets only one of them
 // delivers. The recording with fewer packets so far is read next: what waits for a counterpart is
 // then what differs.
-fn compare<D: Summarised, F: Framer + Drop, A: Read, B: Read, S: BuildHasher + Copy>(
+fn compare<D: Summarised, A: Read, B: Read, S: BuildHasher + Copy>(
     alloc: Global,
     hasher: S,
-    framers: (F, F),
     one_managed: &Managed,
     one: &mut Counted<A>,
     other_managed: &Managed,
     other: &mut Counted<B>,
 ) -> Result<Compared<S>, LinkFault>
-    requires none { F.waits framers.0 one_managed.now [] × F.waits framers.1 other_managed.now [] }
-    requires fits { (p : Parameters) (frame : List ℕ) → F.is_frame p frame → D.is_frame p frame }
-    requires frames { (p : Parameters) → F.frames_of p ≡ (D.kind p).frames_of }
     requires channels { (D.kind one_managed.now).channels ≡ (D.kind other_managed.now).channels }
     ensures compared { IfOk result (Compares A.remaining B.remaining one.old one.new other.old
         other.new (packets_by_channel (D.kind one_managed.now))
@@ -238,8 +208,8 @@ fn compare<D: Summarised, F: Framer + Drop, A: Read, B: Read, S: BuildHasher + C
         (D.is_incomplete_at_last other_managed.now))) }
 {
     let mut buffer = [0; CHUNK_SIZE];
-    let mut first = Recording::<D, F>::begin(alloc, one_managed, framers.0);
-    let mut second = Recording::<D, F>::begin(alloc, other_managed, framers.1);
+    let mut first = Recording::<D>::begin(alloc, one_managed);
+    let mut second = Recording::<D>::begin(alloc, other_managed);
     let mut pairing = Pairing::new(alloc, hasher);
     while let Some(station) = next_turn(&first, &second) {
         match station {
@@ -271,10 +241,7 @@ fn compare<D: Summarised, F: Framer + Drop, A: Read, B: Read, S: BuildHasher + C
 
 // Whose recording is read next, unless both were read to their ends: the one with fewer packets so
 // far.
-fn next_turn<D: Summarised, F: Framer + Drop>(
-    first: &Recording<D, F>,
-    second: &Recording<D, F>,
-) -> Option<Station>
+fn next_turn<D: Summarised>(first: &Recording<D>, second: &Recording<D>) -> Option<Station>
     ensures first { IfSome result (λ station. station ≡ Station.First
         → first.now.is_read ≡ false) }
     ensures second { IfSome result (λ station. station ≡ Station.Second

@@ -8,14 +8,15 @@ ghost use Rattle.sl_packet.specs.Packets.{without_idle};
 ghost use Rattle.sl_packet.specs.Stopping.{IsStopped};
 ghost use Rattle.sl_engine.specs.Kind.Delivery.{Delivers};
 
+use crate::framing::Framer;
 use crate::link::managed::Managed;
 use crate::tally::{FrameReport, SKIPPED};
 use sl_cop::Verdict;
 use sl_packet::{FlowFault, PacketSink};
 use sl_tcflow::Receiver;
-use sl_tcframe::{TcContent, TcFrame, TcSkip};
+use sl_tcframe::{TcContent, TcFrame, TcFramer, TcSkip};
 use sl_tmflow::Extractor;
-use sl_tmframe::{TmField, TmFrame, TmSkip};
+use sl_tmframe::{TmField, TmFrame, TmFramer, TmSkip};
 use std::alloc::Global;
 use std::marker::Model;
 
@@ -25,11 +26,11 @@ pub trait Deliverer: Drop {
     ghost use Rattle.sl_engine.specs.Link.Managed.{Parameters};
     ghost use Rattle.sl_engine.specs.Kind.Delivery.{IsWithin, Kind};
 
+    /// What delimits the frames.
+    type Framer: Framer;
+
     /// What is found of a frame: why it is skipped, or else a [`TmFound`] or a [`TcFound`].
     type Found: Copy;
-
-    /// Whether octets are a frame.
-    ghost is_frame: { Parameters → List ℕ → Type 0 };
 
     /// The kind of the frames, which says what they deliver.
     ghost kind: { Parameters → Kind };
@@ -59,7 +60,7 @@ pub trait Deliverer: Drop {
         sink: &mut S,
     ) -> Result<(FrameReport, Self::Found), FlowFault>
         requires { (before : List (List ℕ)) × has_processed self.old managed.now before
-            × is_frame managed.now frame.now }
+            × Self.Framer.is_frame managed.now frame.now }
         ensures processed { OnOk result ((before : List (List ℕ))
             → has_processed self.old managed.now before
             → has_processed self.new managed.now (before ++ frame.now ∷ [])) }
@@ -84,6 +85,9 @@ pub trait Deliverer: Drop {
     /// packets as they have octets.
     ghost within: { (delivery : Self) (p : Parameters) (frames : List (List ℕ))
         → has_processed delivery p frames → IsWithin (kind p) frames };
+
+    /// The frames that the framer cuts are those of the kind.
+    ghost frames: { (p : Parameters) → Self.Framer.frames_of p ≡ (kind p).frames_of };
 }
 
 /// A TM frame that is read, and what an extractor finds of it.
@@ -144,11 +148,11 @@ impl Model for TcFound {
 
 impl Deliverer for Extractor {
     ghost use Rattle.sl_engine.specs.Kind.Tm.{HasProcessedTm, IsIncompleteAtLastTm, tm_found, tm_kind};
-    ghost use Rattle.sl_engine.specs.Framing.Tm.{is_tm_frame};
+    ghost use Rattle.std.specs.Prelude.{refl};
+
+    type Framer = TmFramer;
 
     type Found = Result<TmFound, TmSkip>;
-
-    ghost is_frame = { is_tm_frame };
 
     ghost kind = { tm_kind };
 
@@ -197,15 +201,17 @@ impl Deliverer for Extractor {
     }
 
     ghost within = { λ extractor p frames processed. processed.within };
+
+    ghost frames = { λ p. refl };
 }
 
 impl Deliverer for Receiver {
     ghost use Rattle.sl_engine.specs.Kind.Tc.{HasProcessedTc, IsIncompleteAtLastTc, tc_found, tc_kind};
-    ghost use Rattle.sl_engine.specs.Framing.Tc.{is_tc_frame};
+    ghost use Rattle.std.specs.Prelude.{refl};
+
+    type Framer = TcFramer;
 
     type Found = Result<TcFound, TcSkip>;
-
-    ghost is_frame = { is_tc_frame };
 
     ghost kind = { tc_kind };
 
@@ -252,6 +258,8 @@ impl Deliverer for Receiver {
     }
 
     ghost within = { λ receiver p frames processed. processed.within };
+
+    ghost frames = { λ p. refl };
 }
 
 // Whether a frame is opaque. The clause cites the definition of the same name; `entry` is the

@@ -25,9 +25,7 @@ use crate::verbs::show::Show;
 use crate::verbs::show::shown::TmFrames;
 use sl_io::{Counted, LinkFault};
 use sl_tcflow::{Farms, Receiver};
-use sl_tcframe::TcFramer;
 use sl_tmflow::Extractor;
-use sl_tmframe::TmFramer;
 use std::alloc::Global;
 use std::io::{Read, Write};
 
@@ -58,9 +56,8 @@ pub fn show_tm<R: Read, W: Write>(
     ensures no_memory { result ≢ Err LinkFault.Memory }
 {
     let mut buffer = [0; CHUNK_SIZE];
-    let mut framer = TmFramer::new(&managed.tm);
     let mut verb = Show::<TmFrames>::begin(managed);
-    list(managed, &mut framer, &mut verb, reader, writer, &mut buffer)
+    list(managed, &mut verb, reader, writer, &mut buffer)
 }
 
 /// Reads a recording of TC transfer frames (CCSDS 232.0-B) to its end and writes a line for each
@@ -92,9 +89,8 @@ pub fn show_tc<R: Read, W: Write>(
     ensures no_memory { result ≢ Err LinkFault.Memory }
 {
     let mut buffer = [0; CHUNK_SIZE];
-    let mut framer = TcFramer::new(&managed.tc);
     let mut verb = Show::<Farms>::begin(managed);
-    list(managed, &mut framer, &mut verb, reader, writer, &mut buffer)
+    list(managed, &mut verb, reader, writer, &mut buffer)
 }
 
 /// Reads a recording of TM transfer frames to its end, and writes a line for each anomaly of it,
@@ -131,9 +127,8 @@ pub fn check_tm<R: Read, W: Write>(
         (tm_frames_of managed.now.tm_length) (IsIncompleteAtLastTm managed.now)) }
 {
     let mut buffer = [0; CHUNK_SIZE];
-    let mut framer = TmFramer::new(&managed.tm);
     let mut verb = Check::<Extractor>::begin(alloc, managed);
-    list(managed, &mut framer, &mut verb, reader, writer, &mut buffer)
+    list(managed, &mut verb, reader, writer, &mut buffer)
 }
 
 /// Reads a recording of TC transfer frames to its end, and writes a line for each anomaly of it,
@@ -171,9 +166,8 @@ pub fn check_tc<R: Read, W: Write>(
         (tc_frames_of (tc_format managed.now)) (IsIncompleteAtLastTc managed.now)) }
 {
     let mut buffer = [0; CHUNK_SIZE];
-    let mut framer = TcFramer::new(&managed.tc);
     let mut verb = Check::<Receiver>::begin(alloc, managed);
-    list(managed, &mut framer, &mut verb, reader, writer, &mut buffer)
+    list(managed, &mut verb, reader, writer, &mut buffer)
 }
 
 /// Reads a recording of TM transfer frames to its end, and writes a line for each packet that its
@@ -210,9 +204,8 @@ pub fn packets_tm<R: Read, W: Write>(
         (tm_frames_of managed.now.tm_length) (IsIncompleteAtLastTm managed.now)) }
 {
     let mut buffer = [0; CHUNK_SIZE];
-    let mut framer = TmFramer::new(&managed.tm);
     let mut verb = ListPackets::<Extractor>::begin(alloc, managed);
-    list(managed, &mut framer, &mut verb, reader, writer, &mut buffer)
+    list(managed, &mut verb, reader, writer, &mut buffer)
 }
 
 /// Reads a recording of TC transfer frames to its end, and writes a line for each packet that its
@@ -250,7 +243,6 @@ pub fn packets_tc<R: Read, W: Write>(
         (tc_frames_of (tc_format managed.now)) (IsIncompleteAtLastTc managed.now)) }
 {
     let mut buffer = [0; CHUNK_SIZE];
-    let mut framer = TcFramer::new(&managed.tc);
     let mut verb = ListPackets::<Receiver>::begin(alloc, managed);
-    list(managed, &mut framer, &mut verb, reader, writer, &mut buffer)
+    list(managed, &mut verb, reader, writer, &mut buffer)
 }

@@ -23,9 +23,7 @@ use crate::normalise::form::write_form;
 use sl_io::{Counted, LinkFault};
 use sl_packet::Delivered;
 use sl_tcflow::{Receiver, TcForm};
-use sl_tcframe::TcFramer;
 use sl_tmflow::{Extractor, TmForm};
-use sl_tmframe::TmFramer;
 use std::alloc::Global;
 use std::io::{Read, Write};
 
@@ -73,8 +71,7 @@ pub fn normalise_tm<R: Read, W: Write>(
         → MayRefuseMemoryAtSome R.remaining reader.old reader.new
         (tm_frames_of managed.now.tm_length) (MayRefuseStoreMemoryTm managed.now)) }
 {
-    let mut framer = TmFramer::new(&managed.tm);
-    normalise::<Extractor, TmFramer, R, W>(alloc, managed, &mut framer, reader, writer)
+    normalise::<Extractor, R, W>(alloc, managed, reader, writer)
 }
 
 /// Reads a recording of TC transfer frames to its end, and then writes the normal form of the
@@ -121,8 +118,7 @@ pub fn normalise_tc<R: Read, W: Write>(
         → MayRefuseMemoryAtSome R.remaining reader.old reader.new
         (tc_frames_of (tc_format managed.now)) (MayRefuseStoreMemoryTc managed.now)) }
 {
-    let mut framer = TcFramer::new(&managed.tc);
-    normalise::<Receiver, TcFramer, R, W>(alloc, managed, &mut framer, reader, writer)
+    normalise::<Receiver, R, W>(alloc, managed, reader, writer)
 }
 
 /// The normal form of the packets of a kind of frames.
@@ -195,16 +191,12 @@ impl Formed for Receiver {
 
 // Reads a recording to its end, and then writes the normal form of the packets that its frames
 // deliver.
-fn normalise<D: Formed, F: Framer, R: Read, W: Write>(
+fn normalise<D: Formed, R: Read, W: Write>(
     alloc: Global,
     managed: &Managed,
-    framer: &mut F,
     reader: &mut Counted<R>,
     writer: &mut Counted<W>,
 ) -> Result<Totals, LinkFault>
-    requires none { F.waits framer.old managed.now [] }
-    requires fits { (frame : List ℕ) → F.is_frame managed.now frame → D.is_frame managed.now frame }
-    requires frames { F.frames_of managed.now ≡ (D.kind managed.now).frames_of }
     ensures normal_form { OnOk result (Translates R.remaining W.contents reader.old reader.new
         writer.old writer.new (form_text (D.kind managed.now) (D.form_of managed.now))
         managed.now.max_octets) }
@@ -224,23 +216,17 @@ fn normalise<D: Formed, F: Framer, R: Read, W: Write>(
         → MayRefuseMemoryAtSome R.remaining reader.old reader.new (D.kind managed.now).frames_of
         (MayRefuseStoreMemory (D.kind managed.now) (D.is_incomplete_at_last managed.now))) }
 {
-    let (delivered, totals) = store_packets::<D, F, R>(alloc, managed, framer, reader)?;
+    let (delivered, totals) = store_packets::<D, R>(alloc, managed, reader)?;
     D::write(alloc, managed, &delivered, writer)?;
     Ok(totals)
 }
 
-/// Reads a recording to its end, and stores the packets that its frames deliver. The framer is
-/// handed in, as the calls that make one differ between the kinds; `fits` and `frames` say that it
-/// is of the deliverer's kind.
-pub fn store_packets<D: Deliverer, F: Framer, R: Read>(
+/// Reads a recording to its end, and stores the packets that its frames deliver.
+pub fn store_packets<D: Deliverer, R: Read>(
     alloc: Global,
     managed: &Managed,
-    framer: &mut F,
     reader: &mut Counted<R>,
 ) -> Result<(Delivered, Totals), LinkFault>
-    requires none { F.waits framer.old managed.now [] }
-    requires fits { (frame : List ℕ) → F.is_frame managed.now frame → D.is_frame managed.now frame }
-    requires frames { F.frames_of managed.now ≡ (D.kind managed.now).frames_of }
     ensures all { IfOk result (λ stored. StoresAll R.remaining reader.old reader.new
         (D.kind managed.now) managed.now.max_octets stored.0.lists stored.1) }
     ensures stopped { IfErr result (StopsReading R.remaining reader.old reader.new
@@ -255,7 +241,7 @@ pub fn store_packets<D: Deliverer, F: Framer, R: Read>(
         so_far: Totals::none(),
         delivered: Delivered::new(alloc),
     };
-    let octets = read_recording(managed, framer, &mut store, reader, &mut buffer)?;
+    let octets = read_recording(managed, &mut store, reader, &mut buffer)?;
     let Store {
         so_far,
         delivered,
@@ -268,15 +254,11 @@ pub fn store_packets<D: Deliverer, F: Framer, R: Read>(
 }
 
 /// Stores the packets that the frames of a recording in memory deliver.
-pub fn store_packets_in_memory<D: Deliverer, F: Framer>(
+pub fn store_packets_in_memory<D: Deliverer>(
     alloc: Global,
     managed: &Managed,
-    framer: &mut F,
     recording: &[u8],
 ) -> Result<Delivered, LinkFault>
-    requires none { F.waits framer.old managed.now [] }
-    requires fits { (frame : List ℕ) → F.is_frame managed.now frame → D.is_frame managed.now frame }
-    requires frames { F.frames_of managed.now ≡ (D.kind managed.now).frames_of }
     // `AddsByChannel` holds of the kind. A caller has no deliverer that could say so (`within`),
     // and gets by it from what is stored to `packets_by_channel`.
     ensures all { IfOk result (λ stored. AddsByChannel (D.kind managed.now)
@@ -286,12 +268,13 @@ pub fn store_packets_in_memory<D: Deliverer, F: Framer>(
         (MayRefuseStoreMemory (D.kind managed.now) (D.is_incomplete_at_last managed.now))
         recording.now)) }
 {
+    let mut framer = D::Framer::begin(managed);
     let mut store = Store {
         delivery: D::begin(alloc, managed),
         so_far: Totals::none(),
         delivered: Delivered::new(alloc),
     };
-    cut_chunk(managed, framer, &mut store, recording)?;
+    cut_chunk(managed, &mut framer, &mut store, recording)?;
     let Store { delivered, .. } = store;
     Ok(delivered)
 }
@@ -308,7 +291,7 @@ impl<D: Deliverer> FrameSink for Store<D> {
     ghost use Rattle.sl_engine.specs.Kind.Delivery.{AreStored, HasDelivered, MayRefuseStoreMemory};
     ghost use Rattle.sl_engine.specs.Normalise.Form.{IsMemoryRefused};
 
-    ghost is_frame = { D.is_frame };
+    type Framer = D::Framer;
 
     // What holds of the store, `now`, after these frames, whatever store it was at the `start`. It
     // counts no anomalies: that is the 0.

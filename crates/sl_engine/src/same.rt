@@ -1,5 +1,5 @@
 //! Whether two recordings deliver the same packets.
-ghost use Rattle.std.specs.Prelude.{◌≡◌, ◌⊎◌, ◌↔◌, ◌≤◌, [], ℕ, List, IsTrue, IfOk, IfErr, OnOk, length, max};
+ghost use Rattle.std.specs.Prelude.{◌≡◌, ◌⊎◌, ◌↔◌, ◌≤◌, ℕ, List, IsTrue, IfOk, IfErr, OnOk, length, max};
 ghost use Rattle.sl_tcframe.specs.TcDelimited.{tc_frames_of};
 ghost use Rattle.sl_tmframe.specs.TmDelimited.{tm_frames_of};
 ghost use Rattle.sl_engine.specs.Io.Streams.{ReadsAll, StopsReading};
@@ -10,15 +10,12 @@ ghost use Rattle.sl_engine.specs.Link.Managed.{tc_format};
 ghost use Rattle.sl_engine.specs.Framing.{MayRefuseMemoryAtSome, MayRefuseMemoryIn, chunk_size};
 ghost use Rattle.sl_engine.specs.Same.{ComparesPackets, MayRefuseStoreMemoryInTc, MayRefuseStoreMemoryInTm, StopsInMemory};
 
-use crate::framing::Framer;
 use crate::kind::Deliverer;
 use crate::link::managed::Managed;
 use crate::normalise::{store_packets, store_packets_in_memory};
 use sl_io::{Counted, LinkFault};
 use sl_tcflow::Receiver;
-use sl_tcframe::TcFramer;
 use sl_tmflow::Extractor;
-use sl_tmframe::TmFramer;
 use std::alloc::Global;
 use std::io::Read;
 
@@ -59,8 +56,7 @@ pub fn same_packets_tm<A: Read, B: Read>(
         (MayRefuseStoreMemoryTm managed.now) ⊎ MayRefuseMemoryAtSome B.remaining other.old other.new
         (tm_frames_of managed.now.tm_length) (MayRefuseStoreMemoryTm managed.now)) }
 {
-    let framers = (TmFramer::new(&managed.tm), TmFramer::new(&managed.tm));
-    same_packets::<Extractor, TmFramer, A, B>(alloc, managed, framers, one, other)
+    same_packets::<Extractor, A, B>(alloc, managed, one, other)
 }
 
 /// Reads two recordings of TC transfer frames to their ends, one after the other, and reports
@@ -101,22 +97,17 @@ pub fn same_packets_tc<A: Read, B: Read>(
         (MayRefuseStoreMemoryTc managed.now) ⊎ MayRefuseMemoryAtSome B.remaining other.old other.new
         (tc_frames_of (tc_format managed.now)) (MayRefuseStoreMemoryTc managed.now)) }
 {
-    let framers = (TcFramer::new(&managed.tc), TcFramer::new(&managed.tc));
-    same_packets::<Receiver, TcFramer, A, B>(alloc, managed, framers, one, other)
+    same_packets::<Receiver, A, B>(alloc, managed, one, other)
 }
 
 // Reads two recordings to their ends, one after the other, and reports whether both deliver the
 // same packets.
-fn same_packets<D: Deliverer, F: Framer + Drop, A: Read, B: Read>(
+fn same_packets<D: Deliverer, A: Read, B: Read>(
     alloc: Global,
     managed: &Managed,
-    framers: (F, F),
     one: &mut Counted<A>,
     other: &mut Counted<B>,
 ) -> Result<bool, LinkFault>
-    requires none { F.waits framers.0 managed.now [] × F.waits framers.1 managed.now [] }
-    requires fits { (frame : List ℕ) → F.is_frame managed.now frame → D.is_frame managed.now frame }
-    requires frames { F.frames_of managed.now ≡ (D.kind managed.now).frames_of }
     ensures same { IfOk result (ComparesPackets A.remaining B.remaining one.old one.new other.old
         other.new (packets_by_channel (D.kind managed.now)) managed.now.max_octets) }
     ensures fault { IfErr result (λ fault. (StopsReading A.remaining one.old one.new
@@ -129,9 +120,8 @@ fn same_packets<D: Deliverer, F: Framer + Drop, A: Read, B: Read>(
         ⊎ MayRefuseMemoryAtSome B.remaining other.old other.new (D.kind managed.now).frames_of
         (MayRefuseStoreMemory (D.kind managed.now) (D.is_incomplete_at_last managed.now))) }
 {
-    let (mut framer, mut other_framer) = framers;
-    let (stored, _) = store_packets::<D, F, A>(alloc, managed, &mut framer, one)?;
-    let (others, _) = store_packets::<D, F, B>(alloc, managed, &mut other_framer, other)?;
+    let (stored, _) = store_packets::<D, A>(alloc, managed, one)?;
+    let (others, _) = store_packets::<D, B>(alloc, managed, other)?;
     Ok(stored.has_same_packets(&others))
 }
 
@@ -157,8 +147,7 @@ pub fn same_packets_in_memory_tm(
         (max (length one.now) (length other.now)) (MayRefuseStoreMemoryInTm managed.now one.now
         ⊎ MayRefuseStoreMemoryInTm managed.now other.now)) }
 {
-    let framers = (TmFramer::new(&managed.tm), TmFramer::new(&managed.tm));
-    same_packets_in_memory::<Extractor, TmFramer>(alloc, managed, framers, one, other)
+    same_packets_in_memory::<Extractor>(alloc, managed, one, other)
 }
 
 /// Reports whether FARM-1 lets the same packets of two recordings of TC transfer frames in memory
@@ -184,21 +173,16 @@ pub fn same_packets_in_memory_tc(
         (max (length one.now) (length other.now)) (MayRefuseStoreMemoryInTc managed.now one.now
         ⊎ MayRefuseStoreMemoryInTc managed.now other.now)) }
 {
-    let framers = (TcFramer::new(&managed.tc), TcFramer::new(&managed.tc));
-    same_packets_in_memory::<Receiver, TcFramer>(alloc, managed, framers, one, other)
+    same_packets_in_memory::<Receiver>(alloc, managed, one, other)
 }
 
 // Reports whether two recordings in memory deliver the same packets.
-fn same_packets_in_memory<D: Deliverer, F: Framer + Drop>(
+fn same_packets_in_memory<D: Deliverer>(
     alloc: Global,
     managed: &Managed,
-    framers: (F, F),
     one: &[u8],
     other: &[u8],
 ) -> Result<bool, LinkFault>
-    requires none { F.waits framers.0 managed.now [] × F.waits framers.1 managed.now [] }
-    requires fits { (frame : List ℕ) → F.is_frame managed.now frame → D.is_frame managed.now frame }
-    requires frames { F.frames_of managed.now ≡ (D.kind managed.now).frames_of }
     ensures same { IfOk result (λ same. IsTrue same ↔
         (packets_by_channel (D.kind managed.now) one.now
         ≡ packets_by_channel (D.kind managed.now) other.now)) }
@@ -212,11 +196,10 @@ fn same_packets_in_memory<D: Deliverer, F: Framer + Drop>(
         (MayRefuseStoreMemory (D.kind managed.now) (D.is_incomplete_at_last managed.now))
         other.now)) }
 {
-    let (mut framer, mut other_framer) = framers;
     if one.len().max(other.len()) as u64 > managed.max_octets {
         return Err(LinkFault::TooLong);
     }
-    let stored = store_packets_in_memory::<D, F>(alloc, managed, &mut framer, one)?;
-    let also = store_packets_in_memory::<D, F>(alloc, managed, &mut other_framer, other)?;
+    let stored = store_packets_in_memory::<D>(alloc, managed, one)?;
+    let also = store_packets_in_memory::<D>(alloc, managed, other)?;
     Ok(stored.has_same_packets(&also))
 }

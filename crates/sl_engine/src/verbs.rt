@@ -3,7 +3,7 @@ ghost use Rattle.std.specs.Prelude.{◌≡◌, ◌+◌, ◌-◌, ◌^◌, ◌<�
 ghost use Rattle.std.specs.List.{concat};
 ghost use Rattle.sl_engine.specs.Io.Output.{Adds, KeepsWriter};
 ghost use Rattle.sl_engine.specs.Io.Streams.{StopsWriting};
-ghost use Rattle.sl_engine.specs.Verbs.Listing.{EndsListing, MayBegin};
+ghost use Rattle.sl_engine.specs.Verbs.Listing.{EndsListing};
 
 pub mod check;
 pub mod packets;
@@ -25,8 +25,8 @@ pub trait Verb {
     ghost use Rattle.sl_engine.specs.Link.Managed.{Parameters};
     ghost use Rattle.sl_engine.specs.Verbs.Listing.{Frames, Listing};
 
-    /// These octets are a frame.
-    ghost is_frame: { Parameters → List ℕ → Type 0 };
+    /// What delimits the frames.
+    type Framer: Framer;
 
     /// What the verb writes and counts.
     ghost listing: { Parameters → Listing };
@@ -40,7 +40,7 @@ pub trait Verb {
     /// Adds the lines of the next frame. Lines are written where room is wanted.
     fn frame<W: Write>(&mut self, managed: &Managed, frame: &[u8], out: &mut Output<W>) -> Written
         requires { (before : Frames) × has_listed self.old managed.now before
-            × is_frame managed.now frame.now
+            × Self.Framer.is_frame managed.now frame.now
             × (length (concat before) + length frame.now < 2 ^ 64) }
         ensures has_listed { OnOk result ((before : Frames) → has_listed self.old managed.now
             before → has_listed self.new managed.now (before ++ frame.now ∷ [])) }
@@ -89,7 +89,7 @@ impl<'a, 'b, 'c, W: Write, V: Verb> FrameSink for Lister<'a, 'b, 'c, W, V> {
     ghost use Rattle.sl_engine.specs.Io.Streams.{StopsWriting};
     ghost use Rattle.sl_engine.specs.Verbs.Listing.{lines_from};
 
-    ghost is_frame = { V.is_frame };
+    type Framer = V::Framer;
 
     // The verb and the output are those that were lent, and the lines of these frames were added.
     ghost took = { λ p start now frames. (now.verb.ghost_name ≡ start.verb.ghost_name)
@@ -116,27 +116,26 @@ impl<'a, 'b, 'c, W: Write, V: Verb> FrameSink for Lister<'a, 'b, 'c, W, V> {
 // Reads a recording to its end, and writes the listing of it into an output in which no line waits.
 // A function of its own, so that its proof speaks of an output that was lent, as each step of a
 // verb does: `list` makes that output.
-fn list_into<F: Framer, V: Verb, R: Read, W: Write>(
+fn list_into<V: Verb, R: Read, W: Write>(
     managed: &Managed,
-    framer: &mut F,
     verb: &mut V,
     reader: &mut Counted<R>,
     out: &mut Output<W>,
     buffer: &mut [u8],
 ) -> Result<Totals, LinkFault>
-    requires begin { MayBegin buffer.old (F.waits framer.old managed.now) (F.is_frame managed.now)
-        (V.is_frame managed.now) (V.has_listed verb.old managed.now) }
+    requires room { 0 < length buffer.old }
+    requires begun { V.has_listed verb.old managed.now [] }
     requires empty { out.old.lines ≡ [] }
     ensures { KeepsWriter out.old out.new
         × EndsListing R.remaining W.contents reader.old reader.new out.old.writer.now
-        out.new.writer.now (F.frames_of managed.now) (V.listing managed.now)
+        out.new.writer.now (V.Framer.frames_of managed.now) (V.listing managed.now)
         managed.now.max_octets (length buffer.old) (V.may_refuse_memory managed.now) result }
 {
     // A copy, which may stay in registers over the frames: `check` takes 2 to 5 % fewer
     // instructions.
     let managed = *managed;
     let mut lister = Lister { verb, out };
-    let octets = read_recording(&managed, framer, &mut lister, reader, buffer)?;
+    let octets = read_recording(&managed, &mut lister, reader, buffer)?;
     let totals = verb.finish(&managed, octets, out)?;
     out.flush()?;
     Ok(totals)
@@ -144,23 +143,22 @@ fn list_into<F: Framer, V: Verb, R: Read, W: Write>(
 
 /// Reads a recording to its end, and writes the listing of it. `buffer` is for what is read at
 /// once; the contract holds of any length but 0.
-pub fn list<F: Framer, V: Verb, R: Read, W: Write>(
+pub fn list<V: Verb, R: Read, W: Write>(
     managed: &Managed,
-    framer: &mut F,
     verb: &mut V,
     reader: &mut Counted<R>,
     writer: &mut Counted<W>,
     buffer: &mut [u8],
 ) -> Result<Totals, LinkFault>
-    requires { MayBegin buffer.old (F.waits framer.old managed.now) (F.is_frame managed.now)
-        (V.is_frame managed.now) (V.has_listed verb.old managed.now) }
+    requires room { 0 < length buffer.old }
+    requires begun { V.has_listed verb.old managed.now [] }
     ensures { EndsListing R.remaining W.contents reader.old reader.new writer.old writer.new
-        (F.frames_of managed.now) (V.listing managed.now) managed.now.max_octets
+        (V.Framer.frames_of managed.now) (V.listing managed.now) managed.now.max_octets
         (length buffer.old) (V.may_refuse_memory managed.now) result }
 {
     let mut out = Output {
         writer,
         lines: Lines::new(),
     };
-    list_into(managed, framer, verb, reader, &mut out, buffer)
+    list_into(managed, verb, reader, &mut out, buffer)
 }

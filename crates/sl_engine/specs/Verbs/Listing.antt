@@ -1,5 +1,5 @@
 -- A listing that is written frame by frame: the lines of each frame by the frames before it, and those after the last.
-use Rattle.std.specs.Prelude.{◌≡◌, ◌<◌, ℕ, List, [], ◌∷◌, ◌++◌, length, Option, Result, IfOk, IfErr, OnOk}
+use Rattle.std.specs.Prelude.{◌≡◌, ℕ, List, [], ◌∷◌, ◌++◌, Option, Result, IfOk, IfErr, OnOk}
 use Rattle.sl_io.specs.declared.counted.Counted.{Counted}
 use Rattle.sl_io.specs.declared.fault.LinkFault.{LinkFault}
 use Rattle.sl_io.specs.declared.fault.LinkFault.TheVariants.{Memory}
@@ -33,15 +33,6 @@ listing_text frames_of l recording = lines_from l.lines [] (frames_of recording)
     ++ l.last (frames_of recording) (remainder_after (frames_of recording) recording)
 
 -- ---- the engines of listings. Contracts of private functions alone cite this section.
-
--- A listing may begin: the buffer has room, and no octets wait in the framer; the verb may list each frame that the
--- framer cuts, and has listed none.
-pub record MayBegin (buffer : List ℕ) (waits is_cut is_listed : List ℕ → Type 0)
-    (has_listed : Frames → Type 0) : Type 0 where
-  pub room : 0 < length buffer
-  pub none : waits []
-  pub same : (frame : List ℕ) → is_cut frame → is_listed frame
-  pub begun : has_listed []
 
 -- How a listing ends: all is read, and its listing written and counted; or a fault came, which has its cause.
 pub record EndsListing {R W : Type 0} (remaining : R → Option (List ℕ)) (contents : W → Option (List ℕ))

@@ -46,7 +46,7 @@ impl Signs {
         requires { (before : List (List ℕ)) × (self.old ≡ signs_by (D.is_own managed.now)
             (D.is_long managed.now) (D.begun managed.now) before)
             × (found ≡ D.found managed.now before frame.now)
-            × D.is_frame managed.now frame.now × (length before + 1 < 2 ^ 64) }
+            × D.Framer.is_frame managed.now frame.now × (length before + 1 < 2 ^ 64) }
         ensures { (before : List (List ℕ)) → self.old ≡ signs_by (D.is_own managed.now)
             (D.is_long managed.now) (D.begun managed.now) before
             → found ≡ D.found managed.now before frame.now
@@ -59,7 +59,7 @@ impl Signs {
 
     // Takes the signs of a frame, but for its virtual channel.
     fn take_own<D: Summarised>(&mut self, managed: &Managed, frame: &[u8])
-        requires frame { D.is_frame managed.now frame.now }
+        requires frame { D.Framer.is_frame managed.now frame.now }
         requires signs { (before : List (List ℕ)) × AreOwn (D.is_own managed.now)
             (D.is_long managed.now) before self.old × (length before + 1 < 2 ^ 64) }
         ensures own { (before : List (List ℕ)) → AreOwn (D.is_own managed.now)

@@ -47,7 +47,7 @@ pub trait Summarised: Checked {
     ghost none_begun: { (p : Parameters) → begun p [] ≡ no_channels };
 
     fn is_own_frame(managed: &Managed, frame: &[u8]) -> bool
-        requires { Self.is_frame managed.now frame.now }
+        requires { Self.Framer.is_frame managed.now frame.now }
         ensures { result ≡ is_own managed.now frame.now };
 
     fn is_long_frame(managed: &Managed, frame: &[u8]) -> bool
@@ -71,7 +71,7 @@ pub trait Summarised: Checked {
             → result ≡ length (Self.lines_of offset found) }
         // Not about this call, as at `anomaly_lines`: a frame has fewer lines than octets.
         ensures few { (p : Parameters) (before : List (List ℕ)) (frame : List ℕ)
-            → Self.is_frame p frame → 5 ≤ length frame → found ≡ Self.found p before frame
+            → Self.Framer.is_frame p frame → 5 ≤ length frame → found ≡ Self.found p before frame
             → result < length frame };
 
     /// Whether something is incomplete on a channel: then its line is of the word `open`.

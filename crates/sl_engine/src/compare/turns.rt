@@ -1,5 +1,5 @@
 //! Two recordings that are read in turns, a chunk at a time.
-ghost use Rattle.std.specs.Prelude.{◌≡◌, ◌≢◌, ◌⊎◌, ◌+◌, ◌^◌, ◌<◌, ◌≤◌, ◌-◌, ◌++◌, ◌∷◌, [], ℕ, List, false, true, OnOk, IfErr, flat_map, length};
+ghost use Rattle.std.specs.Prelude.{◌≡◌, ◌≢◌, ◌⊎◌, ◌+◌, ◌^◌, ◌<◌, ◌≤◌, ◌-◌, ◌++◌, ◌∷◌, [], ℕ, List, false, true, IfOk, IfErr, OnOk, flat_map, length};
 ghost use Rattle.std.specs.List.{concat};
 ghost use Rattle.sl_packet.specs.Packets.{without_idle};
 ghost use Rattle.sl_packet.specs.Sink.{TakesAll};
@@ -14,7 +14,7 @@ ghost use Rattle.sl_engine.specs.Kind.Delivery.{MayRefuseStoreMemory};
 ghost use Rattle.sl_engine.specs.Link.Managed.{Parameters};
 ghost use Rattle.sl_engine.specs.Tally.{no_counts};
 ghost use Rattle.sl_engine.specs.Verbs.Check.Lines.{anomalies_by};
-ghost use Rattle.sl_engine.specs.Framing.{MayRefuseMemoryAtSome};
+ghost use Rattle.sl_engine.specs.Framing.{MayRefuseMemoryAtSome, StopsPassing};
 
 use crate::compare::signs::Signs;
 use crate::compare::summary::{Summarised, Summary};
@@ -51,7 +51,7 @@ impl<D: Summarised> Counting<D> {
             (D.has_processed self.old.delivery managed.now)
             (signs_by (D.is_own managed.now) (D.is_long managed.now) (D.begun managed.now))
             self.old.so_far self.old.words self.old.signs before
-            × D.is_frame managed.now frame.now
+            × D.Framer.is_frame managed.now frame.now
             × (length (concat before) + length frame.now < 2 ^ 64) }
         ensures delivered { OnOk result ((before : List (List ℕ))
             → HasSummed (D.kind managed.now) (anomalies_by D.lines_of (D.found managed.now))
@@ -97,7 +97,7 @@ impl<'a, 'b, D: Summarised, S: BuildHasher + Copy> FrameSink for Turn<'a, 'b, D,
     ghost use Rattle.sl_engine.specs.Normalise.Form.{IsMemoryRefused};
     ghost use Rattle.sl_engine.specs.Verbs.Check.Lines.{anomalies_by};
 
-    ghost is_frame = { D.is_frame };
+    type Framer = D::Framer;
 
     // The store is the one that was lent, and after these frames both are as `GoesOn` has it. Those
     // that the recording had before this turn are the first of them.
@@ -124,19 +124,59 @@ impl<'a, 'b, D: Summarised, S: BuildHasher + Copy> FrameSink for Turn<'a, 'b, D,
     }
 }
 
+impl<'a, 'b, D: Summarised, S: BuildHasher + Copy> Turn<'a, 'b, D, S> {
+    // Reads the next chunk, and takes the frames that it completes, as `read_chunk` has it. Apart
+    // from `read_turn`, which makes the turn: the borrow checker covers a call that is handed a
+    // framer of an associated type only where the turn's lifetimes are parameters.
+    fn read<R: Read>(
+        &mut self,
+        managed: &Managed,
+        framer: &mut D::Framer,
+        reader: &mut Counted<R>,
+        buffer: &mut [u8],
+        octets: u64,
+    ) -> Result<usize, LinkFault>
+        requires room { 0 < length buffer.old }
+        requires ready { (begun : Counted R) × (so_far : List ℕ)
+            × IsReadSoFar R.remaining D.Framer.is_frame D.Framer.waits D.Framer.frames_of
+            (⟦<Turn<'a, 'b, D, S> as FrameSink>⟧.took managed.now self.old self.old) managed.now
+            begun reader.old framer.old octets so_far }
+        ensures passed { IfOk result (λ taken. (begun : Counted R) (so_far : List ℕ)
+            → IsReadSoFar R.remaining D.Framer.is_frame D.Framer.waits D.Framer.frames_of
+            (⟦<Turn<'a, 'b, D, S> as FrameSink>⟧.took managed.now self.old self.old) managed.now
+            begun reader.old framer.old octets so_far
+            → (chunk : List ℕ)
+            × IsReadSoFar R.remaining D.Framer.is_frame D.Framer.waits D.Framer.frames_of
+            (⟦<Turn<'a, 'b, D, S> as FrameSink>⟧.took managed.now self.old self.new) managed.now
+            begun reader.new framer.new (octets + taken) (so_far ++ chunk)) }
+        ensures end { IfOk result (λ taken. taken ≡ 0 → IsRead R.remaining reader.new) }
+        ensures fits { IfOk result (λ taken. octets + taken < 2 ^ 64) }
+        ensures fault { IfErr result (λ fault. (begun : Counted R) (so_far : List ℕ)
+            → IsReadSoFar R.remaining D.Framer.is_frame D.Framer.waits D.Framer.frames_of
+            (⟦<Turn<'a, 'b, D, S> as FrameSink>⟧.took managed.now self.old self.old) managed.now
+            begun reader.old framer.old octets so_far
+            → StopsPassing R.remaining begun reader.new (D.Framer.frames_of managed.now)
+            (⟦<Turn<'a, 'b, D, S> as FrameSink>⟧.took managed.now self.old self.new)
+            (⟦<Turn<'a, 'b, D, S> as FrameSink>⟧.stopped managed.now self.old self.new)
+            managed.now.max_octets (length buffer.old) fault) }
+    {
+        read_chunk(managed, framer, self, reader, buffer, octets)
+    }
+}
+
 /// One of two recordings, as far as it was read.
 #[derive(Drop)]
-pub struct Recording<D: Summarised, F: Framer + Drop> {
-    pub framer: F,
+pub struct Recording<D: Summarised> {
+    pub framer: D::Framer,
     pub counting: Counting<D>,
     pub octets: u64,
     pub is_read: bool,
 }
 
-impl<D: Summarised, F: Framer + Drop> Recording<D, F> {
+impl<D: Summarised> Recording<D> {
     /// Nothing was read.
-    pub fn begin(alloc: Global, managed: &Managed, framer: F) -> Recording<D, F>
-        ensures framer { result.framer ≡ framer }
+    pub fn begin(alloc: Global, managed: &Managed) -> Recording<D>
+        ensures framer { D.Framer.waits result.framer managed.now [] }
         ensures begun { D.has_processed result.counting.delivery managed.now [] }
         ensures none { result.counting.so_far ≡ no_counts }
         ensures no_words { result.counting.words ≡ word_counts [] }
@@ -146,7 +186,7 @@ impl<D: Summarised, F: Framer + Drop> Recording<D, F> {
         ensures not_read { result.is_read ≡ false }
     {
         Recording {
-            framer,
+            framer: D::Framer::begin(managed),
             counting: Counting {
                 delivery: D::begin(alloc, managed),
                 so_far: Totals::none(),
@@ -211,33 +251,31 @@ fn count_incomplete<D: Summarised>(delivery: &D, words: &mut WordCounts) -> u64
 }
 
 /// Reads the next chunk of a station's recording, and pairs the packets that its frames deliver.
-pub fn read_turn<D: Summarised, F: Framer + Drop, R: Read, S: BuildHasher + Copy>(
+pub fn read_turn<D: Summarised, R: Read, S: BuildHasher + Copy>(
     managed: &Managed,
     station: Station,
-    recording: &mut Recording<D, F>,
+    recording: &mut Recording<D>,
     reader: &mut Counted<R>,
     pairing: &mut Pairing<S>,
     buffer: &mut [u8],
 ) -> Result<(), LinkFault>
     requires room { 0 < length buffer.old }
-    requires fits { (frame : List ℕ) → F.is_frame managed.now frame → D.is_frame managed.now frame }
-    requires frames { F.frames_of managed.now ≡ (D.kind managed.now).frames_of }
     requires ready { (begun : Counted R) × (so_far : List ℕ)
-        × IsReadSoFar R.remaining F.is_frame F.waits F.frames_of
+        × IsReadSoFar R.remaining D.Framer.is_frame D.Framer.waits D.Framer.frames_of
         (HasSummed (D.kind managed.now) (anomalies_by D.lines_of (D.found managed.now))
         (D.has_processed recording.old.counting.delivery managed.now)
         (signs_by (D.is_own managed.now) (D.is_long managed.now) (D.begun managed.now))
         recording.old.counting.so_far recording.old.counting.words recording.old.counting.signs)
         managed.now begun reader.old recording.old.framer recording.old.octets so_far }
     ensures paired { OnOk result ((begun : Counted R) (so_far : List ℕ)
-        → IsReadSoFar R.remaining F.is_frame F.waits F.frames_of
+        → IsReadSoFar R.remaining D.Framer.is_frame D.Framer.waits D.Framer.frames_of
         (HasSummed (D.kind managed.now) (anomalies_by D.lines_of (D.found managed.now))
         (D.has_processed recording.old.counting.delivery managed.now)
         (signs_by (D.is_own managed.now) (D.is_long managed.now) (D.begun managed.now))
         recording.old.counting.so_far recording.old.counting.words recording.old.counting.signs)
         managed.now begun reader.old recording.old.framer recording.old.octets so_far
         → (chunk : List ℕ)
-        × IsReadSoFar R.remaining F.is_frame F.waits F.frames_of
+        × IsReadSoFar R.remaining D.Framer.is_frame D.Framer.waits D.Framer.frames_of
         (HasSummed (D.kind managed.now) (anomalies_by D.lines_of (D.found managed.now))
         (D.has_processed recording.new.counting.delivery managed.now)
         (signs_by (D.is_own managed.now) (D.is_long managed.now) (D.begun managed.now))
@@ -253,7 +291,7 @@ pub fn read_turn<D: Summarised, F: Framer + Drop, R: Read, S: BuildHasher + Copy
     ensures nearer { OnOk result ((recording.new.is_read ≡ true)
         ⊎ (recording.old.octets < recording.new.octets)) }
     ensures fault { IfErr result (λ fault. (begun : Counted R) (so_far : List ℕ)
-        → IsReadSoFar R.remaining F.is_frame F.waits F.frames_of
+        → IsReadSoFar R.remaining D.Framer.is_frame D.Framer.waits D.Framer.frames_of
         (HasSummed (D.kind managed.now) (anomalies_by D.lines_of (D.found managed.now))
         (D.has_processed recording.old.counting.delivery managed.now)
         (signs_by (D.is_own managed.now) (D.is_long managed.now) (D.begun managed.now))
@@ -270,14 +308,7 @@ pub fn read_turn<D: Summarised, F: Framer + Drop, R: Read, S: BuildHasher + Copy
         pairing,
     };
     let octets = recording.octets;
-    let taken = read_chunk(
-        managed,
-        &mut recording.framer,
-        &mut turn,
-        reader,
-        buffer,
-        octets,
-    )?;
+    let taken = turn.read(managed, &mut recording.framer, reader, buffer, octets)?;
     recording.octets = octets + taken as u64;
     recording.is_read = taken == 0;
     Ok(())

@@ -3,6 +3,7 @@ ghost use Rattle.std.specs.Prelude.{OnOk, IfErr, ◌++◌, ◌∷◌, [], List, 
 ghost use Rattle.sl_engine.specs.Link.Managed.{Parameters};
 ghost use Rattle.sl_engine.specs.Framing.{After, MayTake};
 
+use crate::framing::framer::Framer;
 use crate::link::managed::Managed;
 use sl_io::LinkFault;
 
@@ -11,8 +12,8 @@ use sl_io::LinkFault;
 pub trait FrameSink {
     ghost use Rattle.sl_io.specs.declared.fault.LinkFault.{LinkFault};
 
-    /// The sink takes these octets as a frame.
-    ghost is_frame: { Parameters → List ℕ → Type 0 };
+    /// What delimits the frames.
+    type Framer: Framer;
 
     /// Between its first value and its second the sink has taken these frames.
     ghost took: { Parameters → Self → Self → List (List ℕ) → Type 0 };
@@ -23,7 +24,8 @@ pub trait FrameSink {
 
     /// Takes the next frame.
     fn frame(&mut self, managed: &Managed, frame: &[u8]) -> Result<(), LinkFault>
-        requires { MayTake (took managed.now) (is_frame managed.now) self.old frame.now }
+        requires { MayTake (took managed.now) (Self.Framer.is_frame managed.now) self.old
+            frame.now }
         ensures taken { OnOk result (After (took managed.now) self.old
             (λ start before. took managed.now start self.new (before ++ frame.now ∷ []))) }
         ensures fault { IfErr result (λ fault. After (took managed.now) self.old (λ start before.

@@ -4,8 +4,10 @@ ghost use Rattle.std.specs.Borrow.{sem};
 ghost use Rattle.std.specs.Io.BufRead.{Rests};
 ghost use Rattle.sl_engine.specs.Framing.{CutsFrame, WaitsAfter, WaitsFor};
 
+use crate::link::managed::Managed;
+
 /// Delimits the frames of one kind, whatever chunks the octets come in.
-pub trait Framer {
+pub trait Framer: Drop {
     ghost use Rattle.sl_engine.specs.Link.Managed.{Parameters};
 
     /// These octets are one frame.
@@ -16,6 +18,10 @@ pub trait Framer {
 
     /// The framer waits: these octets came after the last frame that it cut.
     ghost waits: { Self → Parameters → List ℕ → Type 0 };
+
+    /// A framer for frames of the managed format. No octets wait.
+    fn begin(managed: &Managed) -> Self
+        ensures { waits result managed.now [] };
 
     /// Takes octets from the front of the chunk up to the end of a frame, and lends that frame.
     /// `None` where the chunk completes no frame: all its octets then wait for the next chunk.

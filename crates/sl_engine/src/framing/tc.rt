@@ -2,6 +2,7 @@
 ghost use Rattle.sl_fields.specs.Field.{IsOctets};
 
 use crate::framing::framer::Framer;
+use crate::link::managed::Managed;
 use sl_tcframe::TcFramer;
 
 impl Framer for TcFramer {
@@ -12,6 +13,10 @@ impl Framer for TcFramer {
     ghost frames_of = { tc_frames };
 
     ghost waits = { TcWaits };
+
+    fn begin(managed: &Managed) -> TcFramer {
+        TcFramer::new(&managed.tc)
+    }
 
     #[inline(always)]
     fn next_frame<'a, 'p: 'a>(&'a mut self, chunk: &mut &'p [u8]) -> Option<&'a [u8]> {

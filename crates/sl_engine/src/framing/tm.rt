@@ -1,5 +1,6 @@
 //! TM frames, cut out of chunks.
 use crate::framing::framer::Framer;
+use crate::link::managed::Managed;
 use sl_tmframe::TmFramer;
 
 impl Framer for TmFramer {
@@ -10,6 +11,10 @@ impl Framer for TmFramer {
     ghost frames_of = { tm_frames };
 
     ghost waits = { TmWaits };
+
+    fn begin(managed: &Managed) -> TmFramer {
+        TmFramer::new(&managed.tm)
+    }
 
     #[inline(always)]
     fn next_frame<'a, 'p: 'a>(&'a mut self, chunk: &mut &'p [u8]) -> Option<&'a [u8]> {

@@ -49,7 +49,7 @@ impl<D: Checked> Verb for Check<D> {
     ghost use Rattle.sl_engine.specs.Verbs.Check.Checking.{HasChecked};
     ghost use Rattle.sl_engine.specs.Verbs.Check.Lines.{anomalies_by, check_listing};
 
-    ghost is_frame = { D.is_frame };
+    type Framer = D::Framer;
 
     ghost listing = { λ p. check_listing (D.kind p) (anomalies_by D.lines_of (D.found p))
         (D.open_at p) };

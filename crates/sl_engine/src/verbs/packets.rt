@@ -78,7 +78,7 @@ impl<D: Printed> Verb for ListPackets<D> {
     ghost use Rattle.sl_engine.specs.Kind.Delivery.{HasDelivered};
     ghost use Rattle.sl_engine.specs.Verbs.Packets.Line.{packets_listing};
 
-    ghost is_frame = { D.is_frame };
+    type Framer = D::Framer;
 
     ghost listing = { λ p. packets_listing (D.kind p) (D.lines p) };
 

@@ -39,7 +39,7 @@ impl<S: Shown> Show<S> {
 impl<S: Shown> Verb for Show<S> {
     ghost use Rattle.sl_engine.specs.Verbs.Show.Shown.{HasShown, show_listing};
 
-    ghost is_frame = { S.is_frame };
+    type Framer = S::Framer;
 
     ghost listing = { λ p. show_listing (S.is_skipped p) (S.line p) };
 

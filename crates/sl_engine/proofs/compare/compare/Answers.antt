@@ -17,14 +17,14 @@ loop-station-init g c =
     let k' = g.D.Deliverer.kind p' in
     let laws = (g.met.D.Deliverer.within _ p [] c.begin-first.ensures.begun).adds in
     let laws' = (g.met.D.Deliverer.within _ p' [] c.begin-second.ensures.begun).adds in
-    let none = g.met.F.Framer.empty p in
-    let none' = g.met.F.Framer.empty p' in
-    let is = ap (λ (f : List ℕ → List (List ℕ)). f []) (sym (c.requires.frames p)) ∙ none in
-    let is' = ap (λ (f : List ℕ → List (List ℕ)). f []) (sym (c.requires.frames p')) ∙ none' in (
+    let none = g.met.D.Framer.Framer.empty p in
+    let none' = g.met.D.Framer.Framer.empty p' in
+    let is = ap (λ (f : List ℕ → List (List ℕ)). f []) (sym (g.met.D.Deliverer.frames p)) ∙ none in
+    let is' = ap (λ (f : List ℕ → List (List ℕ)). f []) (sym (g.met.D.Deliverer.frames p')) ∙ none' in (
       [],
       [],
-      none_read c.begin-first.ensures.framer c.requires.none.0 none (none_summed k laws c.begin-first.ensures.begun c.begin-first.ensures.none c.begin-first.ensures.no_words c.begin-first.ensures.no_signs) c.begin-first.ensures.octets,
-      none_read c.begin-second.ensures.framer c.requires.none.1 none' (none_summed k' laws' c.begin-second.ensures.begun c.begin-second.ensures.none c.begin-second.ensures.no_words c.begin-second.ensures.no_signs) c.begin-second.ensures.octets,
+      none_read c.begin-first.ensures.framer none (none_summed k laws c.begin-first.ensures.begun c.begin-first.ensures.none c.begin-first.ensures.no_words c.begin-first.ensures.no_signs) c.begin-first.ensures.octets,
+      none_read c.begin-second.ensures.framer none' (none_summed k' laws' c.begin-second.ensures.begun c.begin-second.ensures.none c.begin-second.ensures.no_words c.begin-second.ensures.no_signs) c.begin-second.ensures.octets,
       alike Second c.new-pairing.result _ _ _ (none_on k' laws' is') (alike First c.new-pairing.result _ _ _ (none_on k laws is) c.new-pairing.ensures.none),
       λ is_read. absurd (let bad : false ≡ true = sym c.begin-first.ensures.not_read ∙ is_read in cc),
       λ is_read. absurd (let bad : false ≡ true = sym c.begin-second.ensures.not_read ∙ is_read in cc),
@@ -92,8 +92,8 @@ returns-clause-compared g c =
     let d' = i.3.all.cut.done in
     let laws = (g.met.D.Deliverer.within _ p _ d.delivered.processed).adds in
     let laws' = (g.met.D.Deliverer.within _ p' _ d'.delivered.processed).adds in
-    let is = ap (λ (f : List ℕ → List (List ℕ)). f i.0) (sym (c.requires.frames p)) ∙ i.2.all.all in
-    let is' = ap (λ (f : List ℕ → List (List ℕ)). f i.1) (sym (c.requires.frames p')) ∙ i.3.all.all in
+    let is = ap (λ (f : List ℕ → List (List ℕ)). f i.0) (sym (g.met.D.Deliverer.frames p)) ∙ i.2.all.all in
+    let is' = ap (λ (f : List ℕ → List (List ℕ)). f i.1) (sym (g.met.D.Deliverer.frames p')) ∙ i.3.all.all in
     let stands = alike Second c.loop-station.pairing _ _ _ (on_channels k' laws' (k'.frames_of i.1)) (alike First c.loop-station.pairing _ _ _ (on_channels k laws (k.frames_of i.0)) i.4) in
     record {
       first = i.0;

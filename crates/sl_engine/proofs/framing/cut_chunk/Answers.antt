@@ -15,7 +15,7 @@ frame-requires g c =
     let r = c.requires.ready in
     let h = c.loop-frame.invariant r.0 r.1 r.2 in
     let cut = c.in-Some.ensures.frame c.args.managed.now h.rest h.waiting in
-    record { start = r.0; before = h.frames; taken = h.done; whole = r.3 c.in-Some.frame.now cut.whole; fits = fits_next h _ _ cut r.4 }
+    record { start = r.0; before = h.frames; taken = h.done; whole = cut.whole; fits = fits_next h _ _ cut r.3 }
 
 pub loop-frame-smaller : goal.loop-frame-smaller
 loop-frame-smaller g c =
@@ -42,7 +42,7 @@ returns-clause-taken g c =
     on_ok_weaker c.pause.result (λ paused start octets given.
     let h = c.loop-frame.invariant start octets given in
     let w = c.next_frame.follows.holds-at-none p h.rest h.waiting in
-    taken_all h g.met.F.Framer.front {framer' = c.next_frame.follows.lender-at-none} (c.in_default.ensures.none p h.rest h.waiting) (rw c.in_default.is at w) (paused p start h.frames h.done)) c.pause.ensures.taken
+    taken_all h g.met.S.Framer.Framer.front {framer' = c.next_frame.follows.lender-at-none} (c.in_default.ensures.none p h.rest h.waiting) (rw c.in_default.is at w) (paused p start h.frames h.done)) c.pause.ensures.taken
 
 pub returns-clause-fault : goal.returns-clause-fault
 returns-clause-fault g c =

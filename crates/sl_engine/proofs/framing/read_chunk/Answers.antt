@@ -8,21 +8,21 @@ pub returns-in_err-taken-clause-fault : goal.returns-in_err-taken-clause-fault
 returns-in_err-taken-clause-fault g c =
     let limit = ap (λ (p : Parameters). p.max_octets) c.managed.view_is in
     passed_up _ _ c.from_residual.ensures.1 (λ begun start so_far s.
-    stops_reading s g.met.F.Framer.front refl (omega (arith, c.read_some.auto.buffer)) (rw limit at c.in_err-taken.ensures.fault) c.in_err-taken.ensures.not_memory)
+    stops_reading s g.met.S.Framer.Framer.front refl (omega (arith, c.read_some.auto.buffer)) (rw limit at c.in_err-taken.ensures.fault) c.in_err-taken.ensures.not_memory)
 
 pub cut_chunk-requires : goal.cut_chunk-requires
 cut_chunk-requires g c =
     let r = c.requires.ready in
     let came = rw (ap (λ (p : Parameters). p.max_octets) c.managed.view_is) at c.in_ok-taken.ensures.came in
     let chunk = take c.in_ok-taken.taken c.read_some.new.buffer in
-    record { ready = (r.1, r.2 ++ chunk, more_came r.3 chunk, c.requires.fits, omega (arith, ap (λ (p : Parameters). p.max_octets) c.managed.view_is, size_next r.3 came, c.in_ok-taken.ensures.came.allowed, r.3.allowed)) }
+    record { ready = (r.1, r.2 ++ chunk, more_came r.3 chunk, omega (arith, ap (λ (p : Parameters). p.max_octets) c.managed.view_is, size_next r.3 came, c.in_ok-taken.ensures.came.allowed, r.3.allowed)) }
 
 pub returns-in_err-cut_chunk-clause-fault : goal.returns-in_err-cut_chunk-clause-fault
 returns-in_err-cut_chunk-clause-fault g c =
     let chunk = take c.in_ok-taken.taken c.read_some.new.buffer in
     let limit = ap (λ (p : Parameters). p.max_octets) c.managed.view_is in
     passed_up _ _ c.from_residual-in_err-cut_chunk.ensures.1 (λ begun start so_far s.
-    stops_in_chunk s g.met.F.Framer.front refl (rw limit at c.in_ok-taken.ensures.came) (c.in_err-cut_chunk.ensures.fault start (so_far ++ chunk) (more_came s chunk)).1)
+    stops_in_chunk s g.met.S.Framer.Framer.front refl (rw limit at c.in_ok-taken.ensures.came) (c.in_err-cut_chunk.ensures.fault start (so_far ++ chunk) (more_came s chunk)).1)
 
 pub returns-clause-passed : goal.returns-clause-passed
 returns-clause-passed g c = λ begun start so_far s.

@@ -60,10 +60,10 @@ pub none_summed : (k : Kind) {anomalies_at : List (List ℕ) → List ℕ → Li
 none_summed k laws processed counted worded signed = record { delivered = rw counted (none_delivered k laws processed); words = worded; signs = signed }
 
 pub none_read : {R F : Type 0} {remaining : R → Option (List ℕ)} {is_frame : Parameters → List ℕ → Type 0} {waits : F → Parameters → List ℕ → Type 0} {frames_of : Parameters → List ℕ → List (List ℕ)} {counted : List (List ℕ) → Type 0}
-    {p : Parameters} {framer framer' : F} {reader : Counted R} {limit n : ℕ} → framer' ≡ framer → waits framer p [] → frames_of p [] ≡ [] → counted [] → n ≡ 0
-    → HasPassed remaining reader reader limit n (HasCutAll is_frame waits frames_of counted p framer') []
-none_read same waiting none done is =
-    rw is (passing_none (record { cut = record { frames = []; rest = []; waiting = rw same waiting; parts = refl; whole = tt; done = done }; all = none }))
+    {p : Parameters} {framer : F} {reader : Counted R} {limit n : ℕ} → waits framer p [] → frames_of p [] ≡ [] → counted [] → n ≡ 0
+    → HasPassed remaining reader reader limit n (HasCutAll is_frame waits frames_of counted p framer) []
+none_read waiting none done is =
+    rw is (passing_none (record { cut = record { frames = []; rest = []; waiting = waiting; parts = refl; whole = tt; done = done }; all = none }))
 
 -- and no packet came
 pub none_on : (k : Kind) → AddsByChannel k → k.frames_of [] ≡ [] → (channel : ℕ) → [] ≡ packets_on k (k.frames_of []) channel

@@ -33,7 +33,7 @@ pub trait Checked: Deliverer {
         // Not about this call: a frame of five octets or more has fewer lines than octets. Framers
         // cut no shorter ones.
         ensures few { (p : Parameters) (before : List (List ℕ)) (frame : List ℕ)
-            → Self.is_frame p frame → 5 ≤ length frame
+            → Self.Framer.is_frame p frame → 5 ≤ length frame
             → length (lines_of offset (Self.found p before frame)) < length frame };
 
     /// How many channels there are, under any parameters.

@@ -3,20 +3,21 @@ ghost use Rattle.std.specs.Prelude.{◌≡◌, ◌+◌, ◌<◌, ◌++◌, ◌�
 ghost use Rattle.std.specs.List.{concat};
 ghost use Rattle.sl_engine.specs.Io.Lines.{HasRoomFor, text_width};
 
+use crate::framing::Framer;
 use crate::io::lines::Lines;
 use crate::link::managed::Managed;
 use crate::verbs::show::lines_tc::tc_frame_line;
 use crate::verbs::show::lines_tm::tm_frame_line;
 use sl_tcflow::Farms;
-use sl_tcframe::TcFrame;
-use sl_tmframe::TmFrame;
+use sl_tcframe::{TcFrame, TcFramer};
+use sl_tmframe::{TmFrame, TmFramer};
 
 /// How a frame of a kind is shown.
 pub trait Shown: Drop {
     ghost use Rattle.sl_engine.specs.Link.Managed.{Parameters};
 
-    /// These octets are a frame.
-    ghost is_frame: { Parameters → List ℕ → Type 0 };
+    /// What delimits the frames.
+    type Framer: Framer;
 
     /// Whether a frame is skipped.
     ghost is_skipped: { Parameters → List ℕ → Bool };
@@ -35,7 +36,7 @@ pub trait Shown: Drop {
     /// whether the frame is skipped.
     fn show(&mut self, managed: &Managed, frame: &[u8], lines: &mut Lines) -> bool
         requires before { (before : List (List ℕ)) × has_shown self.old managed.now before
-            × is_frame managed.now frame.now }
+            × Self.Framer.is_frame managed.now frame.now }
         requires room { HasRoomFor (text_width + 1) lines.old }
         ensures skipped { result ≡ is_skipped managed.now frame.now }
         // Not about what this call does: no frame is empty, as the totals want.
@@ -55,10 +56,9 @@ pub struct TmFrames;
 
 impl Shown for TmFrames {
     ghost use Rattle.std.specs.Prelude.{⊤};
-    ghost use Rattle.sl_engine.specs.Framing.Tm.{is_tm_frame};
     ghost use Rattle.sl_engine.specs.Verbs.Show.Tm.{tm_is_skipped, show_tm_line};
 
-    ghost is_frame = { is_tm_frame };
+    type Framer = TmFramer;
 
     ghost is_skipped = { tm_is_skipped };
 
@@ -78,13 +78,12 @@ impl Shown for TmFrames {
 }
 
 impl Shown for Farms {
-    ghost use Rattle.sl_engine.specs.Framing.Tc.{is_tc_frame};
     ghost use Rattle.sl_tcflow.specs.AcceptedUnit.{views_of};
     ghost use Rattle.sl_tcflow.specs.Farms.{HaveStepped};
     ghost use Rattle.sl_engine.specs.Link.Managed.{reception_of, tc_format};
     ghost use Rattle.sl_engine.specs.Verbs.Show.Tc.{tc_is_skipped, show_tc_line};
 
-    ghost is_frame = { is_tc_frame };
+    type Framer = TcFramer;
 
     ghost is_skipped = { tc_is_skipped };
 

@@ -25,7 +25,9 @@ impl Hexadecimals {
     pub fn of_word(&self, word: &[u8; 4]) -> [u8; 8]
         ensures { result ≡ encode_lower word.now }
     {
-        self.of_four(u8x4::from_array(*word)).to_array()
+        // As one number, since the compiler puts an array into a vector octet by octet.
+        let number = u32::from_le_bytes(*word);
+        self.of_four(u32x1::splat(number).to_le_bytes()).to_array()
     }
 
     /// Writes octets in hexadecimal into a buffer, from the place `at` on, two digits an octet. No
@@ -36,19 +38,50 @@ impl Hexadecimals {
             ≡ take at buffer.old ++ encode_lower octets.now }
         ensures long { length buffer.new ≡ length buffer.old }
     {
+        // A copy, which stays in a register whatever is written.
+        let digits = *self;
         let many = octets.len();
-        if many >= 8 {
-            for i in 0..many / 8 {
-                self.put_eight(octets, 8 * i, buffer, at);
+        if many >= 32 {
+            for i in 0..many / 32 {
+                digits.put_thirty_two(octets, 32 * i, buffer, at);
             }
-            // The last eight octets. Some of them may be written already, and are written again.
-            self.put_eight(octets, many - 8, buffer, at);
+            // The last ones. Some of them may be written already, and are written again.
+            digits.put_thirty_two(octets, many - 32, buffer, at);
+        } else if many >= 8 {
+            digits.put_few(octets, buffer, at);
         } else if many >= 4 {
-            self.put_four(octets, 0, buffer, at);
-            self.put_four(octets, many - 4, buffer, at);
+            digits.put_four(octets, 0, buffer, at);
+            digits.put_four(octets, many - 4, buffer, at);
         } else {
             let _ = hex::encode_to_slice(octets, &mut buffer[at..at + 2 * many]);
         }
+    }
+
+    // The same for eight octets and more.
+    #[inline(always)]
+    fn put_few(&self, octets: &[u8], buffer: &mut [u8], at: usize)
+        requires some { 8 ≤ length octets.now }
+        requires room { at + 2 * length octets.now ≤ length buffer.old }
+        ensures text { take (at + 2 * length octets.now) buffer.new
+            ≡ take at buffer.old ++ encode_lower octets.now }
+        ensures long { length buffer.new ≡ length buffer.old }
+    {
+        let many = octets.len();
+        for i in 0..many / 8 {
+            self.put_eight(octets, 8 * i, buffer, at);
+        }
+        self.put_eight(octets, many - 8, buffer, at);
+    }
+
+    // Writes 32 of these octets, from the index `from` on, where those before `from` are written.
+    #[inline(always)]
+    fn put_thirty_two(&self, octets: &[u8], from: usize, buffer: &mut [u8], at: usize)
+        requires inside { from + 32 ≤ length octets.now }
+        requires room { at + 2 * (from + 32) ≤ length buffer.old }
+        ensures { PutsBlock octets.now from 32 at buffer.old buffer.new }
+    {
+        self.of_thirty_two(u8x32::from_slice(&octets[from..]))
+            .copy_to_slice(&mut buffer[at + 2 * from..]);
     }
 
     // Writes eight of these octets, from the index `from` on, where those before `from` are
@@ -83,8 +116,35 @@ impl Hexadecimals {
         self.of_eight(eight).extract::<0, 8>()
     }
 
-    // Eight octets in hexadecimal. The half of an octet, 0 to 15, is the index of its digit in the
-    // table. The upper half comes first.
+    // Octets in hexadecimal, 32 of them. The half of an octet, 0 to 15, is the index of its digit in
+    // the table, which is there for each sixteen halves. The upper half comes first.
+    #[inline(always)]
+    fn of_thirty_two(&self, octets: u8x32) -> u8x64
+        ensures { result ≡ encode_lower octets }
+    {
+        let upper = octets >> u8x32::splat(4);
+        let lower = octets & u8x32::splat(15);
+        let halves: u8x64 = upper.shuffle(
+            lower,
+            [
+                0, 32, 1, 33, 2, 34, 3, 35, 4, 36, 5, 37, 6, 38, 7, 39, 8, 40, 9, 41, 10, 42, 11,
+                43, 12, 44, 13, 45, 14, 46, 15, 47, 16, 48, 17, 49, 18, 50, 19, 51, 20, 52, 21, 53,
+                22, 54, 23, 55, 24, 56, 25, 57, 26, 58, 27, 59, 28, 60, 29, 61, 30, 62, 31, 63,
+            ],
+        );
+        let digits = u8x16::from_array(self.digits);
+        let table: u8x64 = digits.shuffle(
+            digits,
+            [
+                0, 1, 2, 3, 4, 5, 6, 7, 8, 9, 10, 11, 12, 13, 14, 15, 0, 1, 2, 3, 4, 5, 6, 7, 8, 9,
+                10, 11, 12, 13, 14, 15, 0, 1, 2, 3, 4, 5, 6, 7, 8, 9, 10, 11, 12, 13, 14, 15, 0, 1,
+                2, 3, 4, 5, 6, 7, 8, 9, 10, 11, 12, 13, 14, 15,
+            ],
+        );
+        table.swizzle_dyn_within::<16>(halves)
+    }
+
+    // Eight octets likewise.
     #[inline(always)]
     fn of_eight(&self, octets: u8x8) -> u8x16
         ensures { result ≡ encode_lower octets }

@@ -1,11 +1,12 @@
 -- Octets in hexadecimal.
 use Rattle.std.proofs.Common.{◌≡◌, ℕ, suc, ◌+◌, ◌*◌, ◌/◌, ◌^◌, ◌<◌, ◌≤◌, List, [], ◌∷◌, ◌++◌, cond, leb, length, get_or, replicate, slice_index, refl, sym, ap, subst, ◌∙◌, arith, w8, bit_and, Fits, zero, ◌%◌, take, drop, add-zero, append-nil, append_assoc, take_all}
-use Rattle.std.specs.Simd.Lanes.{zip2, Each1, pick_l, put_chunk}
+use Rattle.std.specs.Int.{w32, from_le_bytes}
+use Rattle.std.specs.Simd.Lanes.{zip2, Each1, pick_l, put_chunk, digits_l, number_l}
 use Rattle.std.proofs.lemmas.Simd.{swz_l, SwzOk, SwzOk-from_below, take_more_put_chunk, length-chunk, length-put_chunk}
 use Rattle.std.proofs.lemmas.Bool.{lt-leb}
 use Rattle.std.proofs.lemmas.Nat.{and_mask}
 use Rattle.std.proofs.Math.Seq.{take-add, take-append-add, take-nil}
-use Rattle.std.proofs.lemmas.List.{length-take-le, take-take}
+use Rattle.std.proofs.lemmas.List.{get_or_append_left, get_or-append-add, length-take-le, take-take}
 use Rattle.hex.specs.Hex.{encode_lower, encode_with, lower_digits}
 use Rattle.hex.proofs.HexLemmas.{length-encode_with}
 use Rattle.sl_engine.specs.Io.Digits.{PutsBlock}
@@ -27,6 +28,17 @@ halves_of_eight : (octets : List ℕ) → length octets ≡ 8 → eight_halves o
 unfolding halves
 halves_of_eight (a ∷ b ∷ c ∷ d ∷ e ∷ f ∷ g ∷ h ∷ []) long = refl
 halves_of_eight octets long = absurd (omega arith)
+
+-- and those of 32
+abbrev pub halves_in_lanes : List ℕ → List ℕ
+halves_in_lanes octets =
+    pick_l 0 (zip2 (λ a b. a / 2 ^ b) octets (replicate 32 4) ++ zip2 bit_and octets (replicate 32 15))
+    (0 ∷ 32 ∷ 1 ∷ 33 ∷ 2 ∷ 34 ∷ 3 ∷ 35 ∷ 4 ∷ 36 ∷ 5 ∷ 37 ∷ 6 ∷ 38 ∷ 7 ∷ 39 ∷ 8 ∷ 40 ∷ 9 ∷ 41 ∷ 10 ∷ 42 ∷ 11 ∷ 43 ∷ 12 ∷ 44 ∷ 13 ∷ 45 ∷ 14 ∷ 46 ∷ 15 ∷ 47 ∷ 16 ∷ 48 ∷ 17 ∷ 49 ∷ 18 ∷ 50 ∷ 19 ∷ 51 ∷ 20 ∷ 52 ∷ 21 ∷ 53 ∷ 22 ∷ 54 ∷ 23 ∷ 55 ∷ 24 ∷ 56 ∷ 25 ∷ 57 ∷ 26 ∷ 58 ∷ 27 ∷ 59 ∷ 28 ∷ 60 ∷ 29 ∷ 61 ∷ 30 ∷ 62 ∷ 31 ∷ 63 ∷ [])
+
+halves_of_lanes : (octets : List ℕ) → length octets ≡ 32 → halves_in_lanes octets ≡ halves octets
+unfolding halves
+halves_of_lanes (x0 ∷ x1 ∷ x2 ∷ x3 ∷ x4 ∷ x5 ∷ x6 ∷ x7 ∷ x8 ∷ x9 ∷ x10 ∷ x11 ∷ x12 ∷ x13 ∷ x14 ∷ x15 ∷ x16 ∷ x17 ∷ x18 ∷ x19 ∷ x20 ∷ x21 ∷ x22 ∷ x23 ∷ x24 ∷ x25 ∷ x26 ∷ x27 ∷ x28 ∷ x29 ∷ x30 ∷ x31 ∷ []) long = refl
+halves_of_lanes octets long = absurd (omega arith)
 
 -- a half is below 16, and there are two of each octet
 lower_below : (x : ℕ) → bit_and x 15 < 16
@@ -64,6 +76,63 @@ digits_of_halves t (x ∷ octets) i inside fits =
 pub eight_digits : (t octets : List ℕ) → length octets ≡ 8 → Each1 (Fits w8) octets → swz_l w8 16 t 0 (eight_halves octets) ≡ encode_with t octets
 eight_digits t octets long fits = ap (swz_l w8 16 t 0) (halves_of_eight octets long) ∙ digits_of_halves t octets 0 (omega (arith, long)) fits
 
+-- ---- the same of 32 octets, where the digits stand in the table four times, once for each sixteen lanes
+
+abbrev pub four_times : List ℕ → List ℕ
+four_times t = t ++ (t ++ (t ++ t))
+
+place : (q h : ℕ) → q < 4 → h < 16 → get_or (four_times lower_digits) (16 * q + h) 0 ≡ slice_index lower_digits h
+place zero h few below =
+    let t = lower_digits in
+    let at : 16 * 0 + h ≡ h = omega arith in
+    ap (λ (k : ℕ). get_or (four_times t) k 0) at ∙ get_or_append_left t (t ++ (t ++ t)) 0 h below
+place (suc zero) h few below =
+    let t = lower_digits in
+    let at : 16 * 1 + h ≡ 16 + h = omega arith in
+    ap (λ (k : ℕ). get_or (four_times t) k 0) at ∙ get_or-append-add t (t ++ (t ++ t)) h 0 ∙ get_or_append_left t (t ++ t) 0 h below
+place (suc (suc zero)) h few below =
+    let t = lower_digits in
+    let at : 16 * 2 + h ≡ 16 + (16 + h) = omega arith in
+    ap (λ (k : ℕ). get_or (four_times t) k 0) at ∙ get_or-append-add t (t ++ (t ++ t)) (16 + h) 0 ∙ get_or-append-add t (t ++ t) h 0
+    ∙ get_or_append_left t t 0 h below
+place (suc (suc (suc zero))) h few below =
+    let t = lower_digits in
+    let at : 16 * 3 + h ≡ 16 + (16 + (16 + h)) = omega arith in
+    ap (λ (k : ℕ). get_or (four_times t) k 0) at ∙ get_or-append-add t (t ++ (t ++ t)) (16 + (16 + h)) 0
+    ∙ get_or-append-add t (t ++ t) (16 + h) 0 ∙ get_or-append-add t t h 0
+place (suc (suc (suc (suc q)))) h few below = absurd (omega (arith, few))
+
+digit_in_lane : (i h : ℕ) → i < 64 → h < 16 → cond (leb 128 h) 0 (get_or (four_times lower_digits) (16 * (i / 16) + h) 0) ≡ slice_index lower_digits h
+digit_in_lane i h inside below = rw (lt-leb 128 h (omega arith)) (place (i / 16) h (omega arith) below)
+
+digits_in_lanes : (octets : List ℕ) (i : ℕ) → i + 2 * length octets ≤ 64 → Each1 (Fits w8) octets
+    → swz_l w8 16 (four_times lower_digits) i (halves octets) ≡ encode_lower octets
+unfolding halves encode_with
+digits_in_lanes [] i inside fits = refl
+digits_in_lanes (x ∷ octets) i inside fits =
+    rw (digit_in_lane i (x / 16) (omega arith) (omega (arith, fits.0.fits)), digit_in_lane (suc i) (bit_and x 15) (omega arith) (lower_below x), and_mask x 4)
+    (ap (λ l. slice_index lower_digits (x / 16) ∷ slice_index lower_digits (x % 16) ∷ l) (digits_in_lanes octets (suc (suc i)) (omega arith) fits.1))
+
+pub lanes_ok : (octets : List ℕ) → length octets ≡ 32 → Each1 (Fits w8) octets → SwzOk w8 16 64 0 (halves_in_lanes octets)
+lanes_ok octets long fits =
+    subst (SwzOk w8 16 64 0) (sym (halves_of_lanes octets long))
+    (SwzOk-from_below w8 16 4 64 0 (halves octets) refl (omega (arith, length-halves octets, long)) (halves_below octets fits))
+
+pub lanes_digits : (octets : List ℕ) → length octets ≡ 32 → Each1 (Fits w8) octets
+    → swz_l w8 16 (four_times lower_digits) 0 (halves_in_lanes octets) ≡ encode_lower octets
+lanes_digits octets long fits = ap (swz_l w8 16 (four_times lower_digits) 0) (halves_of_lanes octets long) ∙ digits_in_lanes octets 0 (omega (arith, long)) fits
+
+-- as vectors make that table
+abbrev pub table_in_lanes : List ℕ → List ℕ
+table_in_lanes t = pick_l 0 (t ++ t) (0 ∷ 1 ∷ 2 ∷ 3 ∷ 4 ∷ 5 ∷ 6 ∷ 7 ∷ 8 ∷ 9 ∷ 10 ∷ 11 ∷ 12 ∷ 13 ∷ 14 ∷ 15 ∷ 0 ∷ 1 ∷ 2 ∷ 3 ∷ 4 ∷ 5 ∷ 6 ∷ 7 ∷ 8 ∷ 9 ∷ 10 ∷ 11 ∷ 12 ∷ 13 ∷ 14 ∷ 15 ∷ 0 ∷ 1 ∷ 2 ∷ 3 ∷ 4 ∷ 5 ∷ 6 ∷ 7 ∷ 8 ∷ 9 ∷ 10 ∷ 11 ∷ 12 ∷ 13 ∷ 14 ∷ 15 ∷ 0 ∷ 1 ∷ 2 ∷ 3 ∷ 4 ∷ 5 ∷ 6 ∷ 7 ∷ 8 ∷ 9 ∷ 10 ∷ 11 ∷ 12 ∷ 13 ∷ 14 ∷ 15 ∷ [])
+
+pub swz_table : (t octets : List ℕ) → t ≡ lower_digits → length octets ≡ 32 → Each1 (Fits w8) octets
+    → swz_l w8 16 (table_in_lanes t) 0 (halves_in_lanes octets) ≡ encode_lower octets
+swz_table t octets are long fits =
+    let table : table_in_lanes lower_digits ≡ four_times lower_digits = refl in
+    ap (λ d. swz_l w8 16 (table_in_lanes d) 0 (halves_in_lanes octets)) are
+    ∙ ap (λ d. swz_l w8 16 d 0 (halves_in_lanes octets)) table ∙ lanes_digits octets long fits
+
 -- the first eight digits of four octets and four more are those of the four
 pub first_of_eight : (octets : List ℕ) → length octets ≡ 4
     → (let places : List ℕ = 0 ∷ 1 ∷ 2 ∷ 3 ∷ 4 ∷ 5 ∷ 6 ∷ 7 ∷ [] in
@@ -89,6 +158,22 @@ encode_nil = refl
 pub sixteen_digits : encode_lower (0x01 ∷ 0x23 ∷ 0x45 ∷ 0x67 ∷ 0x89 ∷ 0xab ∷ 0xcd ∷ 0xef ∷ []) ≡ lower_digits
 unfolding encode_with
 sixteen_digits = refl
+
+-- a word as a number, and that number as octets again
+pub octets_of_word : (word : List ℕ) (number : ℕ) → length word ≡ 4 → ((i : ℕ) → get_or word i 0 < 256) → number ≡ from_le_bytes w32 word
+    → digits_l 256 4 (number_l (2 ^ 32) (number ∷ [])) ≡ word
+octets_of_word (a ∷ b ∷ c ∷ d ∷ []) n long fits is =
+    let af : a < 256 = fits 0 in
+    let bf : b < 256 = fits 1 in
+    let cf : c < 256 = fits 2 in
+    let df : d < 256 = fits 3 in
+    let sum : n + 2 ^ 32 * 0 ≡ a + 256 * b + 65536 * c + 16777216 * d = omega (arith, is) in
+    let first : (n + 2 ^ 32 * 0) % 256 ≡ a = omega (arith, sum, af, bf, cf, df) in
+    let second : (n + 2 ^ 32 * 0) / 256 % 256 ≡ b = omega (arith, sum, af, bf, cf, df) in
+    let third : (n + 2 ^ 32 * 0) / 256 / 256 % 256 ≡ c = omega (arith, sum, af, bf, cf, df) in
+    let fourth : (n + 2 ^ 32 * 0) / 256 / 256 / 256 % 256 ≡ d = omega (arith, sum, af, bf, cf, df) in
+    rw (first, second, third, fourth) refl
+octets_of_word word n long fits is = absurd (omega arith)
 
 -- the text of the first octets
 take-encode_lower : (k : ℕ) (xs : List ℕ) → take (2 * k) (encode_lower xs) ≡ encode_lower (take k xs)

@@ -6,11 +6,11 @@ pub loop-i-init : goal.loop-i-init
 loop-i-init c = none_put c.args.octets.now c.args.buffer.now c.args.at
 
 pub loop-i-preserved : goal.loop-i-preserved
-loop-i-preserved c = more_put (8 * (c.loop-i.i + 1)) c.loop-i.invariant c.put_eight.ensures (omega arith) (omega arith) (omega arith)
+loop-i-preserved c = more_put (32 * (c.loop-i.i + 1)) c.loop-i.invariant c.put_thirty_two.ensures (omega arith) (omega arith) (omega arith)
 
 pub returns-after-loop-i-clause-text : goal.returns-after-loop-i-clause-text
 returns-after-loop-i-clause-text c =
-    all_put (more_put (length c.args.octets.now) c.loop-i.invariant c.put_eight-then-many-ge8.ensures (omega arith) (omega arith) (omega arith))
+    all_put (more_put (length c.args.octets.now) c.loop-i.invariant c.put_thirty_two-then-many-ge32.ensures (omega arith) (omega arith) (omega arith))
 
 pub returns-then-many-ge4-clause-text : goal.returns-then-many-ge4-clause-text
 returns-then-many-ge4-clause-text c =

@@ -12,6 +12,12 @@ abbrev pub other_fields_text : PacketFields → List ℕ
 other_fields_text h = codes " secondary " ++ decimal (bit_of h.secondary) ++ codes " flags " ++ decimal h.flags
     ++ codes " count " ++ decimal h.count
 
+-- those of few bits, and the packet type before them, with the name of the count
+abbrev pub header_bits_text : PacketFields → List ℕ
+header_bits_text h =
+    codes " type " ++ decimal h.kind ++ codes " secondary " ++ decimal (bit_of h.secondary) ++ codes " flags "
+    ++ decimal h.flags ++ codes " count "
+
 -- all fields of the primary header
 abbrev pub header_text : PacketFields → List ℕ
 header_text h = codes " apid " ++ decimal h.apid ++ codes " type " ++ decimal h.kind ++ other_fields_text h

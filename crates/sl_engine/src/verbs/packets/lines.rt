@@ -1,14 +1,16 @@
 //! The lines of packets, whose octets are written part by part.
 ghost use Rattle.std.specs.Prelude.{◌≡◌, ◌+◌, ◌≤◌, ◌++◌, length, IfErr, OnErr, OnOk};
 ghost use Rattle.hex.specs.Hex.{encode_lower};
-ghost use Rattle.sl_engine.specs.Verbs.Packets.Line.{fields_text, header_text, other_fields_text, packet_text, size_text};
+ghost use Rattle.sl_engine.specs.Verbs.Packets.Line.{fields_text, header_text, packet_text, size_text};
 ghost use Rattle.sl_engine.specs.Io.Output.{Adds, KeepsWriter};
-ghost use Rattle.sl_engine.specs.Io.Lines.{HasRoomFor, fields_width, part_width, text_width, words_width};
+ghost use Rattle.sl_engine.specs.Io.Lines.{HasRoomFor, part_width, text_width, words_width};
 ghost use Rattle.sl_engine.specs.Io.Streams.{StopsWriting};
+
+mod header_bits;
 
 use crate::io::lines::Lines;
 use crate::io::output::{Output, Written};
-use crate::io::words::push_flag;
+use crate::verbs::packets::lines::header_bits::bits_text;
 use sl_fields::{PacketHeader, front};
 use std::io::Write;
 
@@ -55,21 +57,7 @@ fn push_header(lines: &mut Lines, header: &PacketHeader)
 {
     lines.push(b" apid ");
     lines.push_number(u64::from(header.apid()));
-    lines.push(b" type ");
-    lines.push_small_number(header.kind());
-    push_other_fields(lines, header);
-}
-
-fn push_other_fields(lines: &mut Lines, header: &PacketHeader)
-    requires { HasRoomFor fields_width lines.old }
-    ensures text { lines.new ≡ lines.old ++ other_fields_text header.now }
-    ensures short { length lines.new ≤ length lines.old + fields_width }
-{
-    lines.push(b" secondary ");
-    push_flag(lines, header.secondary());
-    lines.push(b" flags ");
-    lines.push_small_number(header.flags());
-    lines.push(b" count ");
+    lines.push(&bits_text(header));
     lines.push_number(u64::from(header.count()));
 }
 

@@ -4,3 +4,5 @@ pub mod Check
 pub mod Lister
 -- lines of packets
 pub mod Packets
+-- lines of frames
+pub mod Show

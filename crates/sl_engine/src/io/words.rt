@@ -1,7 +1,6 @@
 //! Lines and words that several verbs have. `number_width` is the room for a number and also for a
 //! word: no word here is longer than the longest number.
 ghost use Rattle.std.specs.Prelude.{◌≡◌, ◌+◌, ◌≤◌, ◌++◌, length, codes, decimal};
-ghost use Rattle.sl_fields.specs.Field.{bit_of};
 ghost use Rattle.sl_engine.specs.Io.Words.{line_at, tc_skip_word, tm_skip_word, verdict_word};
 ghost use Rattle.sl_engine.specs.Io.Lines.{HasRoom, HasRoomFor, line_width, number_width};
 
@@ -71,17 +70,4 @@ pub fn push_verdict(lines: &mut Lines, verdict: Verdict)
         Verdict::Refused => b" refused",
         Verdict::Command => b" command",
     });
-}
-
-/// Adds a flag as 0 or 1.
-pub fn push_flag(lines: &mut Lines, is_set: bool)
-    requires { HasRoomFor 1 lines.old }
-    ensures text { lines.new ≡ lines.old ++ decimal (bit_of is_set) }
-    ensures short { length lines.new ≡ length lines.old + 1 }
-{
-    if is_set {
-        lines.push(b"1");
-    } else {
-        lines.push(b"0");
-    }
 }

@@ -2,8 +2,10 @@
 ghost use Rattle.std.specs.Prelude.{[]};
 ghost use Rattle.sl_engine.specs.Verbs.Show.Shown.{HasShown};
 
+mod clcw_flags;
 pub mod lines_tc;
 pub mod lines_tm;
+mod segment_texts;
 pub mod shown;
 
 use crate::io::output::{Output, Written};

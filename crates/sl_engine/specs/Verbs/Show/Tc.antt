@@ -35,6 +35,11 @@ segment_text unit =
     ++ codes " map " ++ decimal (header_at unit).map
     ++ codes " octets " ++ decimal (length unit - 1)
 
+-- a segment header by its fields, with the name of the number behind it
+abbrev pub segment_header_text : ℕ → ℕ → List ℕ
+segment_header_text flags map_id =
+    codes " segment " ++ flags_word flags ++ codes " map " ++ decimal map_id ++ codes " octets "
+
 -- a unit, without a segment header (`plain`) or with it
 abbrev pub unit_text : Bool → List ℕ → List ℕ
 unit_text plain unit = if plain then codes " unit octets " ++ decimal (length unit) else segment_text unit

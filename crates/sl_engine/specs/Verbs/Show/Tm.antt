@@ -31,6 +31,15 @@ clcw_fields_text w =
     ++ codes " farmb " ++ decimal w.farm_b
     ++ codes " vr " ++ decimal w.report
 
+-- those of them between the virtual channel and the report value, with the name of the latter
+abbrev pub clcw_flags_text : ClcwFields → List ℕ
+clcw_flags_text w =
+    codes " lockout " ++ decimal (bit_of w.lockout)
+    ++ codes " wait " ++ decimal (bit_of w.wait)
+    ++ codes " retransmit " ++ decimal (bit_of w.retransmit)
+    ++ codes " farmb " ++ decimal w.farm_b
+    ++ codes " vr "
+
 -- an operational control field: a CLCW where its first bit is 0, another report where that is 1
 abbrev pub word_text : List ℕ → List ℕ
 word_text word =

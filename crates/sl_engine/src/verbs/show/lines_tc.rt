@@ -9,11 +9,12 @@ ghost use Rattle.sl_tcflow.specs.ReceptionParameters.{ReceptionParameters};
 ghost use Rattle.sl_tcflow.specs.Series.{header_at};
 ghost use Rattle.sl_engine.specs.Kind.Delivery.{with_frame};
 ghost use Rattle.sl_engine.specs.Io.Words.{verdict_word};
-ghost use Rattle.sl_engine.specs.Verbs.Show.Tc.{flags_word, unit_text, content_text, step_text, tc_view_text, tc_frame_text};
-ghost use Rattle.sl_engine.specs.Io.Lines.{HasRoomFor, fields_width, number_width, part_width, text_width, words_width};
+ghost use Rattle.sl_engine.specs.Verbs.Show.Tc.{unit_text, content_text, step_text, tc_view_text, tc_frame_text};
+ghost use Rattle.sl_engine.specs.Io.Lines.{HasRoomFor, fields_width, part_width, text_width, words_width};
 
 use crate::io::lines::Lines;
 use crate::io::words::{push_tc_skip, push_verdict};
+use crate::verbs::show::segment_texts::header_text;
 use sl_cop::Verdict;
 use sl_fields::{SegmentHeader, front};
 use sl_tcflow::Farms;
@@ -124,9 +125,8 @@ fn push_unit(lines: &mut Lines, plain: bool, unit: &[u8])
         return;
     }
     let (header, octets) = split_unit(unit);
-    push_flags(lines, header.flags());
-    lines.push_small_number(header.map());
-    lines.push(b" octets ");
+    let (places, many) = header_text(&header);
+    lines.push_first(&places, many);
     lines.push_number(octets.len() as u64);
 }
 
@@ -138,22 +138,4 @@ fn split_unit(unit: &[u8]) -> (SegmentHeader, &[u8])
 {
     let (header, octets) = front::<1>(unit);
     (SegmentHeader::read(header), octets)
-}
-
-// The branch is unpredictable, so all four texts are padded to one length and pushed alike: `show`
-// of TC frames of up to 64 octets takes 11 % fewer instructions.
-fn push_flags(lines: &mut Lines, flags: u8)
-    requires room { HasRoomFor number_width lines.old }
-    requires fits { flags < 4 }
-    ensures text { lines.new ≡ lines.old ++ (codes " segment " ++ flags_word flags
-        ++ codes " map ") }
-    ensures short { length lines.new ≤ length lines.old + number_width }
-{
-    let (text, many) = match flags {
-        0 => (b" segment middle map ", 20),
-        1 => (b" segment first map  ", 19),
-        2 => (b" segment last map   ", 18),
-        _ => (b" segment whole map  ", 19),
-    };
-    lines.push_first(text, many);
 }

@@ -5,7 +5,8 @@ ghost use Rattle.sl_engine.specs.Verbs.Show.Tm.{clcw_fields_text, word_text, con
 ghost use Rattle.sl_engine.specs.Io.Lines.{HasRoomFor, fields_width, part_width, text_width, words_width};
 
 use crate::io::lines::Lines;
-use crate::io::words::{push_flag, push_tm_skip};
+use crate::io::words::push_tm_skip;
+use crate::verbs::show::clcw_flags::flags_text;
 use sl_fields::Clcw;
 use sl_tmframe::{TmField, TmFrame, TmSkip};
 
@@ -99,14 +100,6 @@ fn push_clcw(lines: &mut Lines, clcw: &Clcw)
 {
     lines.push(b" vc ");
     lines.push_small_number(clcw.vc());
-    lines.push(b" lockout ");
-    push_flag(lines, clcw.lockout());
-    lines.push(b" wait ");
-    push_flag(lines, clcw.wait());
-    lines.push(b" retransmit ");
-    push_flag(lines, clcw.retransmit());
-    lines.push(b" farmb ");
-    lines.push_small_number(clcw.farm_b());
-    lines.push(b" vr ");
+    lines.push(&flags_text(clcw));
     lines.push_small_number(clcw.report());
 }

@@ -1,0 +1,4 @@
+-- the flags of a CLCW
+pub mod Flags
+-- segment headers
+pub mod Segments

@@ -6,11 +6,11 @@ use Rattle.std.proofs.lemmas.List.Elements.{All-append, All-replicate}
 use Rattle.sl_fields.specs.Field.{IsOctets}
 use Rattle.sl_fields.proofs.FecfLemmas.{fecf_len_le}
 use Rattle.sl_tcframe.specs.TcFrame.{TcFormat, least_of}
-use Rattle.sl_tcframe.specs.TcFraming.{Incomplete, IncompleteBecomesFrame, WholeFrame, front_of, len_by_four}
+use Rattle.sl_tcframe.specs.TcFraming.{Incomplete, IncompleteBecomesFrame, WholeFrame, frame_front, len_by_four}
 use Rattle.sl_tcframe.proofs.FramingLemmas.{front_tells, front_whole, len_by_four-append}
 
 abbrev Becomes : TcFormat → List ℕ → Type 0
-Becomes format octets = (more : List ℕ) × IsOctets more × (front_of format (octets ++ more) ≡ WholeFrame (length (octets ++ more)))
+Becomes format octets = (more : List ℕ) × IsOctets more × (frame_front format (octets ++ more) ≡ WholeFrame (length (octets ++ more)))
 
 -- zeros complete a frame where four octets state its length
 becomes_whole : (format : TcFormat) (octets : List ℕ) → 4 ≤ length octets → least_of format ≤ len_by_four octets → length octets ≤ len_by_four octets → Becomes format octets
@@ -55,6 +55,6 @@ incomplete_becomes_frame format octets each incomplete =
           let (more, are, whole) = becomes_whole format (octets ++ h.pad) four (omega (arith, h.many, least_few format)) (omega (arith, h.many, h.four)) in (
             h.pad ++ more,
             All-append (λ octet. octet < 256) h.pad more h.each are,
-            subst (λ l. front_of format l ≡ WholeFrame (length l)) (append_assoc octets h.pad more) whole,
+            subst (λ l. frame_front format l ≡ WholeFrame (length l)) (append_assoc octets h.pad more) whole,
           )
     ]

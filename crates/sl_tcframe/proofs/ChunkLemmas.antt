@@ -8,7 +8,7 @@ use Rattle.std.proofs.lemmas.Option.{none-some}
 use Rattle.sl_fields.specs.Field.{IsOctets}
 use Rattle.sl_tcframe.specs.TcDelimited.{IsTcDelimited, front_len, tc_frames_of, tc_remainder_of}
 use Rattle.sl_tcframe.specs.TcFrame.{TcFormat, is_cut, stated_frame_len}
-use Rattle.sl_tcframe.specs.TcFraming.{BeginsWith, FrameFront, Incomplete, BelowLeast, WholeFrame, IsRest, len_by_four, front_of, TcFraming, YieldsFrame, YieldsNone, YieldsFrames, ended, yielded, paused, after_call, at_start, AnyChunksAreTaken, BelowLeastIsNoFrame, ChunksAreDelimited, FrontsAreFrames}
+use Rattle.sl_tcframe.specs.TcFraming.{BeginsWith, FrameFront, Incomplete, BelowLeast, WholeFrame, IsRest, len_by_four, frame_front, TcFraming, YieldsFrame, YieldsNone, YieldsFrames, ended, yielded, paused, after_call, at_start, AnyChunksAreTaken, BelowLeastIsNoFrame, ChunksAreDelimited, FrontsAreFrames}
 use Rattle.sl_tcframe.proofs.DelimitedLemmas.{HasFrame, front_len-cases, is_cut-front, each_is_delimited, front_len-is, front_len-is_cut, front_len-some, frames_of-frame, frames_of-none, remainder_of-frame, remainder_of-none}
 use Rattle.sl_tcframe.proofs.FramingLemmas.{FrontIs, below_is_not_whole, below_stays, fits_rest, four_state_it, front_below_least, front_tells, front_whole, len_by_four-append, rest_fits}
 use Rattle.sl_tcframe.proofs.PartLemmas.{facts_cut}
@@ -19,7 +19,7 @@ use Rattle.sl_tcframe.proofs.PartLemmas.{facts_cut}
 stated_by_four : (octets : List ℕ) → IsOctets octets → 5 ≤ length octets → len_by_four octets ≡ stated_frame_len octets
 stated_by_four octets each five = four_state_it octets five (All-get_or (λ octet. octet < 256) octets 4 0 (omega arith) each)
 
-whole_is_frame : (format : TcFormat) (octets : List ℕ) (len : ℕ) → IsOctets octets → front_of format octets ≡ WholeFrame len → front_len format octets ≡ Some len
+whole_is_frame : (format : TcFormat) (octets : List ℕ) (len : ℕ) → IsOctets octets → frame_front format octets ≡ WholeFrame len → front_len format octets ≡ Some len
 whole_is_frame format octets len each whole =
     let w = front_tells format octets (WholeFrame len) whole in
     let five : 5 ≤ length octets = omega (arith, w.1, w.2) in
@@ -30,7 +30,7 @@ whole_is_frame format octets len each whole =
       stated = w.3 ∙ stated_by_four octets each five;
     })
 
-frame_is_whole : (format : TcFormat) (octets : List ℕ) (len : ℕ) → IsOctets octets → front_len format octets ≡ Some len → front_of format octets ≡ WholeFrame len
+frame_is_whole : (format : TcFormat) (octets : List ℕ) (len : ℕ) → IsOctets octets → front_len format octets ≡ Some len → frame_front format octets ≡ WholeFrame len
 frame_is_whole format octets len each some =
     let f = front_len-some format octets len some in
     let header = f.header in
@@ -74,7 +74,7 @@ rest_is_no_frame format octets each is_rest =
       | inr (enough, more) ↦ let inside = f.inside in absurd (omega (arith, same, more, inside))
     ])
 
-pub no_frame_below_least : (format : TcFormat) (octets more : List ℕ) → IsOctets (octets ++ more) → front_of format octets ≡ BelowLeast → front_len format (octets ++ more) ≡ None
+pub no_frame_below_least : (format : TcFormat) (octets more : List ℕ) → IsOctets (octets ++ more) → frame_front format octets ≡ BelowLeast → front_len format (octets ++ more) ≡ None
 no_frame_below_least format octets more each below =
     let facts = front_tells format octets BelowLeast below in
     begins_no_frame format (octets ++ more) each
@@ -96,10 +96,10 @@ whole_is_cut format octets frame left parts each w =
 -- ---- a call that yields no frame
 
 -- four octets that state a length below the least are taken, and the octets after them are left
-below_taken : (format : TcFormat) (octets : List ℕ) → front_of format octets ≡ BelowLeast → length (take 4 octets) ≡ 4
+below_taken : (format : TcFormat) (octets : List ℕ) → frame_front format octets ≡ BelowLeast → length (take 4 octets) ≡ 4
 below_taken format octets below = length-take-le 4 octets (front_tells format octets BelowLeast below).0
 
-pub below_again : (format : TcFormat) (octets : List ℕ) → front_of format octets ≡ BelowLeast → front_of format (take 4 octets) ≡ BelowLeast
+pub below_again : (format : TcFormat) (octets : List ℕ) → frame_front format octets ≡ BelowLeast → frame_front format (take 4 octets) ≡ BelowLeast
 below_again format octets below =
     let facts = front_tells format octets BelowLeast below in
     let four = below_taken format octets below in
@@ -138,7 +138,7 @@ pub record YieldsNoMore (f : TcFraming) (chunks frames : List (List ℕ)) (new :
   pub rest : new.rest ≡ f.rest
   pub behind_is : behind ≡ concat chunks
 
-yields_no_more : (f new : TcFraming) (chunks frames : List (List ℕ)) (behind : List ℕ) → front_of f.format f.rest ≡ BelowLeast → length f.rest ≡ 4
+yields_no_more : (f new : TcFraming) (chunks frames : List (List ℕ)) (behind : List ℕ) → frame_front f.format f.rest ≡ BelowLeast → length f.rest ≡ 4
     → YieldsFrames f chunks frames new behind → YieldsNoMore f chunks frames new behind
 yields_no_more f new chunks frames behind below four (ended f') = record { none = refl; rest = refl; behind_is = refl }
 yields_no_more f new chunks' frames' behind' below four (yielded f' new' chunk frame left behind chunks frames y later) =
@@ -147,7 +147,7 @@ yields_no_more f new chunks' frames' behind' below four (paused f' new' chunk le
     let now = below_stays f.format f.rest chunk below in
     let same : (after_call f chunk None).rest ≡ f.rest = rw now (take_at f.rest chunk 4 four) in
     let left_same : left ≡ chunk = p.left_is ∙ rw now (drop_at f.rest chunk 4 four) in
-    let next = yields_no_more (after_call f chunk None) new chunks frames behind (subst (λ l. front_of f.format l ≡ BelowLeast) (sym same) below) (ap length same ∙ four) later in
+    let next = yields_no_more (after_call f chunk None) new chunks frames behind (subst (λ l. frame_front f.format l ≡ BelowLeast) (sym same) below) (ap length same ∙ four) later in
     record {
       none = next.none;
       rest = next.rest ∙ same;
@@ -169,13 +169,13 @@ AreTheirs f chunks frames new behind =
 
 -- where the octets so far state a length below the least
 stuck_theirs : (f new : TcFraming) (chunk left behind : List ℕ) (chunks frames : List (List ℕ)) → IsOctets (f.rest ++ (chunk ++ concat chunks))
-    → YieldsNone f chunk left → front_of f.format (f.rest ++ chunk) ≡ BelowLeast → YieldsFrames (after_call f chunk None) chunks frames new behind
+    → YieldsNone f chunk left → frame_front f.format (f.rest ++ chunk) ≡ BelowLeast → YieldsFrames (after_call f chunk None) chunks frames new behind
     → AreTheirs f (chunk ∷ chunks) frames new (left ++ behind)
 stuck_theirs f new chunk left behind chunks frames each p below later =
     let octets = f.rest ++ chunk in
     let parts = append_assoc f.rest chunk (concat chunks) in
     let four : (after_call f chunk None).rest ≡ take 4 octets = rw below refl in
-    let again = subst (λ l. front_of f.format l ≡ BelowLeast) (sym four) (below_again f.format octets below) in
+    let again = subst (λ l. frame_front f.format l ≡ BelowLeast) (sym four) (below_again f.format octets below) in
     let stays = yields_no_more (after_call f chunk None) new chunks frames behind again (ap length four ∙ below_taken f.format octets below) later in
     let none = no_frame_below_least f.format octets (concat chunks) (subst IsOctets (sym parts) each) below in (
       ap (tc_frames_of f.format) (sym parts) ∙ frames_of-none f.format (octets ++ concat chunks) none ∙ sym stays.none,
@@ -248,7 +248,7 @@ pause f chunk left chunks others p =
 
 step : (f : TcFraming) (chunk : List ℕ) (chunks : List (List ℕ)) → IsRest f.format f.rest → Others f chunks
     → ((frame left : List ℕ) → length left < length chunk → Taken (after_call f chunk (Some frame)) (left ∷ chunks))
-    → (front : FrameFront) → front_of f.format (f.rest ++ chunk) ≡ front → Taken f (chunk ∷ chunks)
+    → (front : FrameFront) → frame_front f.format (f.rest ++ chunk) ≡ front → Taken f (chunk ∷ chunks)
 step f chunk chunks is_rest others next Incomplete is =
     pause f chunk [] chunks others (record { front = inl is; left_is = rw is refl })
 step f chunk chunks is_rest others next BelowLeast is =
@@ -267,11 +267,11 @@ step f chunk chunks is_rest others next (WholeFrame len) is =
 take_chunk : (n : ℕ) (f : TcFraming) (chunk : List ℕ) (chunks : List (List ℕ)) → IsRest f.format f.rest → length chunk ≤ n → Others f chunks
     → Taken f (chunk ∷ chunks)
 take_chunk zero f chunk chunks is_rest few others =
-    step f chunk chunks is_rest others (λ frame left less. absurd (omega (arith, few, less))) (front_of f.format (f.rest ++ chunk)) refl
+    step f chunk chunks is_rest others (λ frame left less. absurd (omega (arith, few, less))) (frame_front f.format (f.rest ++ chunk)) refl
 take_chunk (suc n) f chunk chunks is_rest few others =
     step f chunk chunks is_rest others
     (λ frame left less. take_chunk n (after_call f chunk (Some frame)) left chunks (fits_rest f.format [] (inl (omega arith))) (omega (arith, few, less)) others)
-    (front_of f.format (f.rest ++ chunk)) refl
+    (frame_front f.format (f.rest ++ chunk)) refl
 
 take_all : (f : TcFraming) (chunks : List (List ℕ)) → IsRest f.format f.rest → Taken f chunks
 take_all f [] is_rest = ([], f, [], ended f)

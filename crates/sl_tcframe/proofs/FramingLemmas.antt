@@ -7,24 +7,24 @@ use Rattle.std.proofs.lemmas.List.{length-take, take-append-drop, take-append-le
 use Rattle.sl_fields.specs.Field.{number_of}
 use Rattle.sl_tcframe.specs.TcFrame.{TcFormat, least_of, stated_frame_len}
 use Rattle.sl_fields.specs.TcHeader.{tc_header}
-use Rattle.sl_tcframe.specs.TcFraming.{FrameFront, Incomplete, BelowLeast, WholeFrame, IsRest, IsSplit, TakesUpToFrame, len_by_four, front_of}
+use Rattle.sl_tcframe.specs.TcFraming.{FrameFront, Incomplete, BelowLeast, WholeFrame, IsRest, IsSplit, TakesUpToFrame, len_by_four, frame_front}
 use Rattle.sl_tcframe.proofs.PartLemmas.{facts_cut}
 
 -- ---- the front
 
-pub front_few : (format : TcFormat) (octets : List ℕ) → length octets < 4 → front_of format octets ≡ Incomplete
+pub front_few : (format : TcFormat) (octets : List ℕ) → length octets < 4 → frame_front format octets ≡ Incomplete
 front_few format octets few = rw (lt-ltb (length octets) 4 few) refl
 
-pub front_below_least : (format : TcFormat) (octets : List ℕ) → 4 ≤ length octets → len_by_four octets < least_of format → front_of format octets ≡ BelowLeast
+pub front_below_least : (format : TcFormat) (octets : List ℕ) → 4 ≤ length octets → len_by_four octets < least_of format → frame_front format octets ≡ BelowLeast
 front_below_least format octets four low = rw (le-ltb (length octets) 4 four, lt-ltb (len_by_four octets) (least_of format) low) refl
 
 pub front_incomplete : (format : TcFormat) (octets : List ℕ) → 4 ≤ length octets → least_of format ≤ len_by_four octets → length octets < len_by_four octets
-    → front_of format octets ≡ Incomplete
+    → frame_front format octets ≡ Incomplete
 front_incomplete format octets four enough more =
     rw (le-ltb (length octets) 4 four, le-ltb (len_by_four octets) (least_of format) enough, lt-ltb (length octets) (len_by_four octets) more) refl
 
 pub front_whole : (format : TcFormat) (octets : List ℕ) → 4 ≤ length octets → least_of format ≤ len_by_four octets → len_by_four octets ≤ length octets
-    → front_of format octets ≡ WholeFrame (len_by_four octets)
+    → frame_front format octets ≡ WholeFrame (len_by_four octets)
 front_whole format octets four enough whole =
     rw (le-ltb (length octets) 4 four, le-ltb (len_by_four octets) (least_of format) enough, le-ltb (length octets) (len_by_four octets) whole) refl
 
@@ -38,7 +38,7 @@ FrontIs format octets Incomplete = (length octets < 4) ⊎ ((least_of format ≤
 FrontIs format octets BelowLeast = (4 ≤ length octets) × (len_by_four octets < least_of format)
 FrontIs format octets (WholeFrame len) = (4 ≤ length octets) × (least_of format ≤ len_by_four octets) × (len_by_four octets ≤ length octets) × (len ≡ len_by_four octets)
 
-pub front_facts : (format : TcFormat) (octets : List ℕ) → FrontIs format octets (front_of format octets)
+pub front_facts : (format : TcFormat) (octets : List ℕ) → FrontIs format octets (frame_front format octets)
 front_facts format octets =
     elim (leb_tells 4 (length octets)) [
       | inr (is, few) ↦ let short : length octets < 4 = omega (arith, few) in rw (front_few format octets short) (inl short)
@@ -57,7 +57,7 @@ front_facts format octets =
           ]
     ]
 
-pub front_tells : (format : TcFormat) (octets : List ℕ) (front : FrameFront) → front_of format octets ≡ front → FrontIs format octets front
+pub front_tells : (format : TcFormat) (octets : List ℕ) (front : FrameFront) → frame_front format octets ≡ front → FrontIs format octets front
 front_tells format octets front is = subst (FrontIs format octets) is (front_facts format octets)
 
 -- ---- the octets that are left where no frame is whole
@@ -93,7 +93,7 @@ fits_rest format octets fits =
     ]
 
 -- a stated length below the least stays so with more octets
-pub below_stays : (format : TcFormat) (octets more : List ℕ) → front_of format octets ≡ BelowLeast → front_of format (octets ++ more) ≡ BelowLeast
+pub below_stays : (format : TcFormat) (octets more : List ℕ) → frame_front format octets ≡ BelowLeast → frame_front format (octets ++ more) ≡ BelowLeast
 below_stays format octets more below =
     let facts = front_tells format octets BelowLeast below in
     front_below_least format (octets ++ more) (omega (arith, facts.0, length-append octets more)) (omega (arith, facts.1, len_by_four-append octets more facts.0))
@@ -163,7 +163,7 @@ module _ (format : TcFormat) (old chunk : List ℕ) (fits : FitsRest format old)
   -- a length below the least stops the framer after four octets
   pub takes_low : 4 ≤ length first → len_by_four first < least_of format → TakesUpToFrame format old chunk false first later
   takes_low four low =
-      let front : front_of format (old ++ chunk) ≡ BelowLeast = front_below_least format (old ++ chunk) (all_four four) (omega (arith, low, same_len four)) in
+      let front : frame_front format (old ++ chunk) ≡ BelowLeast = front_below_least format (old ++ chunk) (all_four four) (omega (arith, low, same_len four)) in
       let exact : length first ≡ 4 = elim four_or_begun [
         | inl few ↦ omega (arith, four, few.1)
         | inr b ↦ absurd (omega (arith, low, b.0))
@@ -207,7 +207,7 @@ module _ (format : TcFormat) (old chunk : List ℕ) (fits : FitsRest format old)
         let same = same_len four in
         let none : behind ≡ [] = few_left (len_by_four first) first later short in
         let all : whole ≡ old ++ chunk = sym (all_parts ∙ ap (λ l. whole ++ l) none ∙ append-nil whole) in
-        let front : front_of format (old ++ chunk) ≡ Incomplete =
+        let front : frame_front format (old ++ chunk) ≡ Incomplete =
         front_incomplete format (old ++ chunk) (all_four four) (omega (arith, same, enough)) (omega (arith, same, short, ap length all)) in
         (inl front, rw front all, rw front none, fits_rest format whole (inr (omega (arith, enough, same, ap len_by_four all), omega (arith, short, same, ap len_by_four all))))
 

@@ -7,7 +7,7 @@ use Rattle.sl_tcframe.specs.TcFrame.{TcFormat, stated_frame_len, least_of, is_cu
 
 -- No frame begins with these octets, so the recording's frames end here. One of three things is so:
 -- there are fewer octets than a primary header has, the stated length is below the least length of
--- a frame, or there are fewer octets than the stated length. `front_of` of TcFraming asks for four
+-- a frame, or there are fewer octets than the stated length. `frame_front` of TcFraming asks for four
 -- octets, not five. Both find the same frames, since four octets are never a whole frame.
 abbrev pub begin_no_frame : TcFormat → List ℕ → Bool
 begin_no_frame format octets =

@@ -28,8 +28,8 @@ len_by_four octets = stated_frame_len (take 4 octets ++ 0 ∷ [])
 
 -- how far the frame at the front of these octets has come (`front_len` of TcDelimited has only the
 -- length of a whole frame)
-abbrev pub front_of : TcFormat → List ℕ → FrameFront
-front_of format octets =
+abbrev pub frame_front : TcFormat → List ℕ → FrameFront
+frame_front format octets =
     if nat_lt (length octets) 4 then Incomplete
     else if nat_lt (len_by_four octets) (least_of format) then BelowLeast
     else if nat_lt (length octets) (len_by_four octets) then Incomplete
@@ -60,7 +60,7 @@ framing_of f = record { format = f.shape; rest = waiting_octets f.is_lent f.buff
 -- first four state a length below the least, there are only these four.
 abbrev pub IsRest : TcFormat → List ℕ → Type 0
 IsRest format octets =
-    (front_of format octets ≡ Incomplete) ⊎ ((front_of format octets ≡ BelowLeast) × (length octets ≡ 4))
+    (frame_front format octets ≡ Incomplete) ⊎ ((frame_front format octets ≡ BelowLeast) × (length octets ≡ 4))
 
 -- what holds of the octets of a framer's buffer, under the flag `is_lent`: nothing where they are a
 -- frame that was returned, and `IsRest` where they came after the last frame
@@ -78,7 +78,7 @@ pub record IsTcFramer (f : Inside) : Type 0 where
 -- the front of the chunk. The other octets of the chunk are left.
 pub record YieldsFrame (old : TcFraming) (chunk frame left : List ℕ) : Type 0 where
   pub parts : old.rest ++ chunk ≡ frame ++ left
-  pub whole : front_of old.format (old.rest ++ chunk) ≡ WholeFrame (length frame)
+  pub whole : frame_front old.format (old.rest ++ chunk) ≡ WholeFrame (length frame)
 
 -- the octets that are held after a call without a frame, by how far a frame had come: all, or the
 -- four that state a length below the least (never `WholeFrame` here)
@@ -96,16 +96,16 @@ left_at (WholeFrame len) octets = octets
 
 -- The call returns no frame: none is whole, and these octets of the chunk are left.
 pub record YieldsNone (old : TcFraming) (chunk left : List ℕ) : Type 0 where
-  pub front : (front_of old.format (old.rest ++ chunk) ≡ Incomplete)
-      ⊎ (front_of old.format (old.rest ++ chunk) ≡ BelowLeast)
-  pub left_is : left ≡ left_at (front_of old.format (old.rest ++ chunk)) (old.rest ++ chunk)
+  pub front : (frame_front old.format (old.rest ++ chunk) ≡ Incomplete)
+      ⊎ (frame_front old.format (old.rest ++ chunk) ≡ BelowLeast)
+  pub left_is : left ≡ left_at (frame_front old.format (old.rest ++ chunk)) (old.rest ++ chunk)
 
 -- the state after a call with this chunk, which returned this frame or none; after a frame no octet
 -- is held
 abbrev pub after_call : TcFraming → List ℕ → Option (List ℕ) → TcFraming
 after_call old chunk (Some frame) = record { format = old.format; rest = [] }
 after_call old chunk None =
-    record { format = old.format; rest = taken_at (front_of old.format (old.rest ++ chunk)) (old.rest ++ chunk) }
+    record { format = old.format; rest = taken_at (frame_front old.format (old.rest ++ chunk)) (old.rest ++ chunk) }
 
 -- the octets of the returned frame, if there is one
 abbrev pub lent_octets : Option (Bor (List ℕ)) → Option (List ℕ)
@@ -115,7 +115,7 @@ lent_octets (Some octets) = Some octets.now
 -- the framer is stuck: the octets that it took after the last frame state a length below the least
 -- length of a frame
 abbrev pub IsStuck : TcFraming → Type 0
-IsStuck f = front_of f.format f.rest ≡ BelowLeast
+IsStuck f = frame_front f.format f.rest ≡ BelowLeast
 
 -- The state after a call with this chunk and this answer. A framer that is stuck stays as it was,
 -- which follows from `after` and the clauses of `next` and `rest`, and spares callers a proof.
@@ -131,7 +131,7 @@ StaysStuck old chunk answer left = IsStuck old → (left ≡ chunk) × IsNone an
 -- The octets are split into the whole frame at their front and the octets after it.
 pub record IsSplit (format : TcFormat) (octets frame later : List ℕ) : Type 0 where
   pub parts : octets ≡ frame ++ later
-  pub front : front_of format octets ≡ WholeFrame (length frame)
+  pub front : frame_front format octets ≡ WholeFrame (length frame)
   pub cut : is_cut format frame ≡ true
 
 -- Octets of the chunk are taken after the `old` ones. With `true` they are taken up to the end of a
@@ -139,12 +139,12 @@ pub record IsSplit (format : TcFormat) (octets frame later : List ℕ) : Type 0 
 -- framer then holds. `left` is what is left of the chunk.
 abbrev pub TakesUpToFrame : TcFormat → List ℕ → List ℕ → Bool → List ℕ → List ℕ → Type 0
 TakesUpToFrame format old chunk true new left =
-    (old ++ chunk ≡ new ++ left) × (front_of format (old ++ chunk) ≡ WholeFrame (length new))
+    (old ++ chunk ≡ new ++ left) × (frame_front format (old ++ chunk) ≡ WholeFrame (length new))
     × (is_cut format new ≡ true)
 TakesUpToFrame format old chunk false new left =
-    ((front_of format (old ++ chunk) ≡ Incomplete) ⊎ (front_of format (old ++ chunk) ≡ BelowLeast))
-    × (new ≡ taken_at (front_of format (old ++ chunk)) (old ++ chunk))
-    × (left ≡ left_at (front_of format (old ++ chunk)) (old ++ chunk))
+    ((frame_front format (old ++ chunk) ≡ Incomplete) ⊎ (frame_front format (old ++ chunk) ≡ BelowLeast))
+    × (new ≡ taken_at (frame_front format (old ++ chunk)) (old ++ chunk))
+    × (left ≡ left_at (frame_front format (old ++ chunk)) (old ++ chunk))
     × IsRest format new
 
 -- ---- calls with chunks, one after another
@@ -178,13 +178,13 @@ BeginsWith format octets len =
 abbrev pub FrontsAreFrames : Type 0
 FrontsAreFrames =
     (format : TcFormat) (octets : List ℕ) (len : ℕ) → IsOctets octets
-    → (front_of format octets ≡ WholeFrame len) ↔ BeginsWith format octets len
+    → (frame_front format octets ≡ WholeFrame len) ↔ BeginsWith format octets len
 
 -- Octets that state a length below the least don't begin with a frame, however they go on.
 abbrev pub BelowLeastIsNoFrame : Type 0
 BelowLeastIsNoFrame =
     (format : TcFormat) (octets more : List ℕ) (len : ℕ) → IsOctets (octets ++ more)
-    → front_of format octets ≡ BelowLeast
+    → frame_front format octets ≡ BelowLeast
     → BeginsWith format (octets ++ more) len → ⊥
 
 -- The recording is the chunks end to end. The frames that the framer yields are the recording's
@@ -199,8 +199,8 @@ ChunksAreDelimited =
 -- Octets with an incomplete front become a whole frame with some octets after them.
 abbrev pub IncompleteBecomesFrame : Type 0
 IncompleteBecomesFrame =
-    (format : TcFormat) (octets : List ℕ) → IsOctets octets → front_of format octets ≡ Incomplete
-    → (more : List ℕ) × IsOctets more × (front_of format (octets ++ more) ≡ WholeFrame (length (octets ++ more)))
+    (format : TcFormat) (octets : List ℕ) → IsOctets octets → frame_front format octets ≡ Incomplete
+    → (more : List ℕ) × IsOctets more × (frame_front format (octets ++ more) ≡ WholeFrame (length (octets ++ more)))
 
 -- Whatever the chunks are, the framer yields some frames and is left in some state.
 abbrev pub AnyChunksAreTaken : Type 0

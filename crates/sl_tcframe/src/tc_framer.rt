@@ -5,7 +5,7 @@ ghost use Rattle.std.specs.Borrow.{sem};
 ghost use Rattle.std.specs.Io.BufRead.{Rests};
 ghost use Rattle.sl_tcframe.specs.TcFrame.{is_cut, stated_frame_len};
 ghost use Rattle.sl_tcframe.specs.TcFraming.{BelowLeast, IsRest, IsSplit, TakesUpToFrame};
-ghost use Rattle.sl_tcframe.specs.TcFraming.{front_of, len_by_four};
+ghost use Rattle.sl_tcframe.specs.TcFraming.{frame_front, len_by_four};
 
 use crate::tc_shape::TcShape;
 use arrayvec::ArrayVec;
@@ -173,7 +173,7 @@ fn complete(shape: &TcShape, taken: &mut ArrayVec<u8, 1024>, chunk: &mut &[u8]) 
         taken.old.items chunk.old.now result taken.new.items chunk.new.now }
 
     // Nothing is taken after a stated length below the least.
-    ensures stuck { front_of shape.now taken.old.items ≡ BelowLeast
+    ensures stuck { frame_front shape.now taken.old.items ≡ BelowLeast
         → (result ≡ false) × (taken.new.items ≡ taken.old.items) × (chunk.new.now ≡ chunk.old.now) }
 {
     fill(taken, chunk, 4);

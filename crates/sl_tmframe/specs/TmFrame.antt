@@ -162,15 +162,15 @@ skip_reason format spacecraft frame =
     else None
 
 -- whether a frame with this header and this data field is opaque
-abbrev pub is_opaque : TmFields → List ℕ → Bool
-is_opaque header field =
+abbrev pub reads_as_opaque : TmFields → List ℕ → Bool
+reads_as_opaque header field =
     (header.secondary || header.sync)
     || (not (header.first == 2046) && not (header.first == 2047) && not (nat_lt header.first (length field)))
 
 -- the content of a data field, by its class in a frame with this header
 abbrev pub content_of_field : TmFields → List ℕ → DataField
 content_of_field header field =
-    if is_opaque header field then Opaque
+    if reads_as_opaque header field then Opaque
     else if header.first == 2046 then Idle
     else if header.first == 2047 then Packets None field
     else Packets (Some header.first) field

@@ -1,5 +1,5 @@
 -- The order of APIDs is stable, runs are what is left, and numbers count.
-use Rattle.std.proofs.Common.{◌≡◌, ◌∙◌, ap, ap₂, sym, ℕ, ◌+◌, ◌≤◌, suc, Bool, true, false, cond, List, [], ◌∷◌, ◌++◌, length, map, inl, inr, refl, arith}
+use Rattle.std.proofs.Common.{◌≡◌, ◌∙◌, ap, ap₂, sym, ℕ, ◌+◌, ◌<◌, ◌≤◌, zero, suc, drop, take, Bool, true, false, cond, List, [], ◌∷◌, ◌++◌, length, map, inl, inr, refl, arith}
 use Rattle.std.proofs.Common.{eqb-true, eq-eqb, ne_eqb, length-append}
 use Rattle.std.specs.Prelude.{flat_map}
 use Rattle.std.specs.List.{AllByRecursion, filter, range_with_len}
@@ -8,7 +8,7 @@ use Rattle.std.proofs.lemmas.Bool.Decides.{leb_tells}
 use Rattle.sl_packet.specs.Packet.{apid_of}
 use Rattle.sl_pair.specs.OnlyIn.{Packets}
 use Rattle.sl_pair.specs.Placed.{NumbersCount, Placed, all_placed_after, count_apid, has_apid, placed_after}
-use Rattle.sl_pair.specs.Runs.{AreLongestRuns, ByApidIsStable, RisesByApid, RunsAreJoined, by_apid, goes_on, put_by_apid, runs_of, with_first}
+use Rattle.sl_pair.specs.Runs.{AreLongestRuns, ByApidIsStable, RisesByApid, RunsAreJoined, by_apid, first_run, goes_on, put_by_apid, runs_of, with_first}
 use Rattle.sl_pair.proofs.RunsLemmas.{by_permutes, put_all}
 use Rattle.sl_pair.proofs.SideLemmas.{count_apid-push}
 
@@ -77,8 +77,35 @@ longest-with_first one ((next ∷ later) ∷ runs) are = go (goes_on one next) r
     go true is = ((is, are.0), are.1, are.2)
     go false is = (tt, is, are)
 
+-- the first run has a packet, and no more than there are
+pub first_some : (left : List Placed) → 0 < length left → (1 ≤ first_run left) × (first_run left ≤ length left)
+first_some [] some = absurd (omega (arith, some))
+first_some (one ∷ []) some = (omega arith, omega arith)
+first_some (one ∷ next ∷ later) some = go (first_some (next ∷ later) (omega arith)) (goes_on one next) refl
+  where
+    go : (1 ≤ first_run (next ∷ later)) × (first_run (next ∷ later) ≤ length (next ∷ later)) → (goes : Bool) → goes_on one next ≡ goes
+        → (1 ≤ first_run (one ∷ next ∷ later)) × (first_run (one ∷ next ∷ later) ≤ length (one ∷ next ∷ later))
+    go more true is = rw is (omega (arith, more.0), omega (arith, more.1))
+    go more false is = rw is (omega arith, omega arith)
+
+-- the runs are the first one, and those of what is behind it
+pub runs_split : (left : List Placed) → 0 < length left → runs_of left ≡ take (first_run left) left ∷ runs_of (drop (first_run left) left)
+runs_split [] some = absurd (omega (arith, some))
+runs_split (one ∷ []) some = refl
+runs_split (one ∷ next ∷ later) some =
+    go (first_run (next ∷ later)) (first_some (next ∷ later) (omega arith)).0 refl (runs_split (next ∷ later) (omega arith)) (goes_on one next) refl
+  where
+    go : (n : ℕ) → 1 ≤ n → first_run (next ∷ later) ≡ n → runs_of (next ∷ later) ≡ take (first_run (next ∷ later)) (next ∷ later) ∷ runs_of (drop (first_run (next ∷ later)) (next ∷ later))
+        → (goes : Bool) → goes_on one next ≡ goes
+        → runs_of (one ∷ next ∷ later) ≡ take (first_run (one ∷ next ∷ later)) (one ∷ next ∷ later) ∷ runs_of (drop (first_run (one ∷ next ∷ later)) (one ∷ next ∷ later))
+    go zero some are behind goes is = absurd (omega (arith, some))
+    go (suc m) some are behind true is =
+        let n : suc m + 1 ≡ suc (suc m) = omega arith in
+        rw (rw are at behind, is, are, n) refl
+    go (suc m) some are behind false is = rw (rw are at behind, is) (ap (λ l. (one ∷ []) ∷ l) (sym (rw are at behind)))
+
 pub runs_are_joined : RunsAreJoined
-runs_are_joined left = record { joined = joined left; longest = longest left }
+runs_are_joined left = record { joined = joined left; longest = longest left; first = runs_split left }
   where
     joined : (xs : List Placed) → flat_map (λ run. run) (runs_of xs) ≡ xs
     joined [] = refl

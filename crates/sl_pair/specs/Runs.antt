@@ -1,5 +1,5 @@
 -- What only one recording has, APID by APID, and in runs.
-use Rattle.std.specs.Prelude.{◌≡◌, ⊤, ℕ, ◌+◌, ◌%◌, ◌==◌, ◌≤◌, ◌&&◌, Bool, true, false, nat_le, cond, List, [], ◌∷◌, flat_map, take}
+use Rattle.std.specs.Prelude.{◌≡◌, ⊤, ℕ, ◌+◌, ◌%◌, ◌==◌, ◌<◌, ◌≤◌, ◌&&◌, Bool, true, false, nat_le, cond, List, [], ◌∷◌, drop, flat_map, length, take}
 use Rattle.std.specs.List.{AllByRecursion, filter}
 use Rattle.std.specs.List.Sorted.{IsPermutation}
 use Rattle.sl_fields.specs.PacketHeader.{packet_header}
@@ -88,10 +88,12 @@ abbrev pub AreLongestRuns : List (List Placed) → Type 0
 AreLongestRuns [] = ⊤
 AreLongestRuns (run ∷ runs) = IsRun run × Ends run runs × AreLongestRuns runs
 
--- The runs, joined, are the packets, and each is as long as may be.
+-- The runs, joined, are the packets, and each is as long as may be. The first one has as many packets as `first_run`
+-- says, and the others are the runs of what is behind it.
 pub record AreItsRuns (left : List Placed) : Type 0 where
   pub joined : flat_map (λ run. run) (runs_of left) ≡ left
   pub longest : AreLongestRuns (runs_of left)
+  pub first : 0 < length left → runs_of left ≡ take (first_run left) left ∷ runs_of (drop (first_run left) left)
 
 abbrev pub RunsAreJoined : Type 0
 RunsAreJoined = (left : List Placed) → AreItsRuns left

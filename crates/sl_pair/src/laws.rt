@@ -54,7 +54,8 @@ pub fn numbers_count()
 {}
 
 /// The order of APIDs has the same packets, and those of one APID in the order that they had. Its
-/// runs, joined, are all of them again, and each is as long as may be.
+/// runs, joined, are all of them again, and each is as long as may be. The first one has as many
+/// packets as [`first_run`](crate::first_run) answers.
 pub fn runs_are_what_is_left()
     ensures order { ByApidIsStable }
     ensures runs { RunsAreJoined }

@@ -125,11 +125,22 @@ module _ {S T : Type 0} {b : builder.Ghosts S T} {h : hasher.Ghosts T} where
   kept_in_order First old new kept own others are = kept own others are
   kept_in_order Second old new kept own others are = kept others own are
 
+  -- on one of the channels
+  pub at_in_order : (station : Station) (channels : List (Channel S T b h)) (own others : ByChannel) → in_order station (AreChannels channels) own others
+      → (channel : ℕ) → in_order station (IsChannelAt (slice_get channels channel)) (own channel) (others channel)
+  at_in_order First channels own others are channel = are channel
+  at_in_order Second channels own others are channel = are channel
+
   -- past the last channel no packet came
   pub past_channels : (channels : List (Channel S T b h)) (channel : ℕ) (firsts seconds : Packets) → length channels ≤ channel
       → IsChannelAt (slice_get channels channel) firsts seconds → (firsts ≡ []) × (seconds ≡ [])
   past_channels channels channel firsts seconds past is =
       subst (λ o. IsChannelAt o firsts seconds) (slice_get_past channels channel past) is
+
+-- where no packet came, none of the station came
+pub none_in_order : (station : Station) (own others : Packets) → in_order station (λ firsts seconds. (firsts ≡ []) × (seconds ≡ [])) own others → own ≡ []
+none_in_order First own others none = none.0
+none_in_order Second own others none = none.1
 
 -- without packets none is left, and all are in place
 pub none_left : (firsts seconds : Packets) → (firsts ≡ []) × (seconds ≡ []) → (only_in firsts seconds ≡ []) × (only_in seconds firsts ≡ [])

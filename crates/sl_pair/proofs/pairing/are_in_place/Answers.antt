@@ -1,6 +1,6 @@
 use Rattle.std.proofs.Common.{length, arith, below_more, inl, inr, refl}
 use Rattle.std.proofs.lemmas.Bool.{cases_lt}
-use Rattle.sl_pair.proofs.PairingLemmas.{channel_here, none_moved, past_channels}
+use Rattle.sl_pair.proofs.PairingLemmas.{channel_here, none_moved, not_told, past_channels}
 use Rattle.sl_pair.proofs.pairing.are_in_place.Goals as goal
 
 pub loop-channel-preserved : goal.loop-channel-preserved
@@ -10,6 +10,15 @@ loop-channel-preserved g c = λ firsts seconds are.
     below_more _ _ (c.loop-channel.invariant firsts seconds are)
     ((c.is_in_place.ensures (firsts i) (seconds i) (channel_here cs i c.channel-item.result firsts seconds (omega arith) c.channel-item.is are)).0
     c.if-not-is_in_place.false)
+
+pub returns-then-not-is_in_place : goal.returns-then-not-is_in_place
+returns-then-not-is_in_place g c = λ firsts seconds are.
+    let cs = c.args.channels.now in
+    let i = c.loop-channel.channel-index in
+    let here = channel_here cs i c.channel-item.result firsts seconds (omega arith) c.channel-item.is are in (
+      (λ it. let none : ⊥ = cc in absurd none),
+      (λ all. absurd (not_told c.is_in_place.result c.if-not-is_in_place.true (c.is_in_place.ensures (firsts i) (seconds i) here) (all i))),
+    )
 
 pub returns : goal.returns
 returns g c = λ firsts seconds are. (

@@ -1,6 +1,7 @@
 use Rattle.std.proofs.Common.{◌≡◌, ◌+◌, ◌<◌, ◌==◌, ◌++◌, ◌∙◌, ℕ, ◌≤◌, false, [], ◌∷◌, Some, ap, append-nil, arith, drop, length, map, rules, ne_eqb, refl, slice_index_or, sym, take}
 use Rattle.std.proofs.lemmas.Bool.{eqb-false, eqb-true}
 use Rattle.std.proofs.lemmas.List.{nil_from_length}
+use Rattle.std.proofs.lemmas.Result.{IfOk-from_err}
 use Rattle.std.specs.Vec.{vec_items}
 use Rattle.sl_packet.proofs.StoppingLemmas.{on_err}
 use Rattle.sl_tmframe.specs.PacketFrame.{field_room_of}
@@ -33,10 +34,62 @@ taken c start next =
     ∙ takes_packet f.shape f.heading c.after-self-inside.result f.start start c.reserve_piece.new.octets.items c.add_packet.new.octets.items (map vec_items f.packets.now) later lists c.in_ok-frames.frames c.as_slice-packet.result.now
     are c.in_ok-frames.ensures.beyond c.in_ok-frames.ensures.count c.after-self-inside.ensures next
 
+pub returns-in_err-reserve_piece-clause-piece : goal.returns-in_err-reserve_piece-clause-piece
+returns-in_err-reserve_piece-clause-piece c = IfOk-from_err c.from_residual.result _ c.from_residual.ensures.0
+
+pub returns-in_err-reserve_piece-clause-end : goal.returns-in_err-reserve_piece-clause-end
+returns-in_err-reserve_piece-clause-end c = IfOk-from_err c.from_residual.result _ c.from_residual.ensures.0
+
+pub returns-in_err-reserve_piece-clause-full : goal.returns-in_err-reserve_piece-clause-full
+returns-in_err-reserve_piece-clause-full c =
+    let i = c.loop-packet.invariant in
+    on_err c.from_residual.result _ (λ reserved. omega (arith, reserved, c.in_err-reserve_piece.ensures.full, i.keeps, i.capacity, ap length i.form))
+
+pub returns-in_err-reserve_piece-clause-unchanged : goal.returns-in_err-reserve_piece-clause-unchanged
+returns-in_err-reserve_piece-clause-unchanged c =
+    let f = c.loop-packet.self-inside in
+    let i = c.loop-packet.invariant in
+    let left = ap (λ o. form_left f.shape f.heading f.start o (map vec_items f.packets.now) (drop (f.heading.vc + 1) (take 8 f.delivered.now.lists))) c.reserve_piece.ensures.octets in
+    on_err c.from_residual.result _ (left ∙ i.left, c.reserve_piece.ensures.form ∙ i.form)
+
+pub returns-in_err-reserve_piece-clause-keeps : goal.returns-in_err-reserve_piece-clause-keeps
+returns-in_err-reserve_piece-clause-keeps c = omega (arith, c.loop-packet.invariant.keeps, c.reserve_piece.ensures.keeps)
+
+pub returns-in_err-reserve_piece-clause-capacity : goal.returns-in_err-reserve_piece-clause-capacity
+returns-in_err-reserve_piece-clause-capacity c = omega (arith, c.loop-packet.invariant.capacity, c.reserve_piece.ensures.capacity)
+
 pub returns-in_err-reserve_piece-clause-pieces : goal.returns-in_err-reserve_piece-clause-pieces
 returns-in_err-reserve_piece-clause-pieces c =
     let i = c.loop-packet.invariant in
     on_err c.from_residual.result _ (λ none. octets_come c.loop-packet.self-inside i.is (omega (arith, ap (λ l. length (map vec_items l)) c.in-Some.ensures.cases.0)) (i.left ∙ none))
+
+-- the memory was reserved, so it isn't refused here
+pub returns-in_err-frames-clause-piece : goal.returns-in_err-frames-clause-piece
+returns-in_err-frames-clause-piece c = absurd (omega (arith, c.in_err-frames.ensures.full, c.in_ok-reserve_piece.ensures.ready, c.in_ok-reserve_piece.ensures.room))
+
+pub returns-in_err-frames-clause-end : goal.returns-in_err-frames-clause-end
+returns-in_err-frames-clause-end c = absurd (omega (arith, c.in_err-frames.ensures.full, c.in_ok-reserve_piece.ensures.ready, c.in_ok-reserve_piece.ensures.room))
+
+pub returns-in_err-frames-clause-full : goal.returns-in_err-frames-clause-full
+returns-in_err-frames-clause-full c = absurd (omega (arith, c.in_err-frames.ensures.full, c.in_ok-reserve_piece.ensures.ready, c.in_ok-reserve_piece.ensures.room))
+
+pub returns-in_err-frames-clause-pieces : goal.returns-in_err-frames-clause-pieces
+returns-in_err-frames-clause-pieces c = absurd (omega (arith, c.in_err-frames.ensures.full, c.in_ok-reserve_piece.ensures.ready, c.in_ok-reserve_piece.ensures.room))
+
+pub returns-in_err-frames-clause-unchanged : goal.returns-in_err-frames-clause-unchanged
+returns-in_err-frames-clause-unchanged c = absurd (omega (arith, c.in_err-frames.ensures.full, c.in_ok-reserve_piece.ensures.ready, c.in_ok-reserve_piece.ensures.room))
+
+pub returns-in_err-frames-clause-keeps : goal.returns-in_err-frames-clause-keeps
+returns-in_err-frames-clause-keeps c = omega (arith, c.loop-packet.invariant.keeps, c.reserve_piece.ensures.keeps, c.add_packet.ensures.keeps)
+
+pub returns-in_err-frames-clause-capacity : goal.returns-in_err-frames-clause-capacity
+returns-in_err-frames-clause-capacity c = omega (arith, c.loop-packet.invariant.capacity, c.reserve_piece.ensures.capacity, c.add_packet.ensures.capacity)
+
+pub returns-then-frames-gt0-clause-keeps : goal.returns-then-frames-gt0-clause-keeps
+returns-then-frames-gt0-clause-keeps c = omega (arith, c.loop-packet.invariant.keeps, c.reserve_piece.ensures.keeps, c.add_packet.ensures.keeps)
+
+pub returns-then-frames-gt0-clause-capacity : goal.returns-then-frames-gt0-clause-capacity
+returns-then-frames-gt0-clause-capacity c = omega (arith, c.loop-packet.invariant.capacity, c.reserve_piece.ensures.capacity, c.add_packet.ensures.capacity)
 
 pub returns-then-frames-gt0-clause-piece : goal.returns-then-frames-gt0-clause-piece
 returns-then-frames-gt0-clause-piece c = λ _.
@@ -70,10 +123,62 @@ loop-packet-preserved-else-frames-gt0 c =
       is = search rules;
     }
 
+pub returns-in_err-reserve_piece-2-clause-piece : goal.returns-in_err-reserve_piece-2-clause-piece
+returns-in_err-reserve_piece-2-clause-piece c = IfOk-from_err c.from_residual-in_err-reserve_piece-2.result _ c.from_residual-in_err-reserve_piece-2.ensures.0
+
+pub returns-in_err-reserve_piece-2-clause-end : goal.returns-in_err-reserve_piece-2-clause-end
+returns-in_err-reserve_piece-2-clause-end c = IfOk-from_err c.from_residual-in_err-reserve_piece-2.result _ c.from_residual-in_err-reserve_piece-2.ensures.0
+
+pub returns-in_err-reserve_piece-2-clause-full : goal.returns-in_err-reserve_piece-2-clause-full
+returns-in_err-reserve_piece-2-clause-full c =
+    let i = c.loop-packet.invariant in
+    on_err c.from_residual-in_err-reserve_piece-2.result _ (λ reserved. omega (arith, reserved, c.in_err-reserve_piece-2.ensures.full, i.keeps, i.capacity, ap length i.form))
+
+pub returns-in_err-reserve_piece-2-clause-unchanged : goal.returns-in_err-reserve_piece-2-clause-unchanged
+returns-in_err-reserve_piece-2-clause-unchanged c =
+    let f = c.loop-packet.self-inside in
+    let i = c.loop-packet.invariant in
+    let left = ap (λ o. form_left f.shape f.heading f.start o (map vec_items f.packets.now) (drop (f.heading.vc + 1) (take 8 f.delivered.now.lists))) c.reserve_piece-then-not-is_empty.ensures.octets in
+    on_err c.from_residual-in_err-reserve_piece-2.result _ (left ∙ i.left, c.reserve_piece-then-not-is_empty.ensures.form ∙ i.form)
+
+pub returns-in_err-reserve_piece-2-clause-keeps : goal.returns-in_err-reserve_piece-2-clause-keeps
+returns-in_err-reserve_piece-2-clause-keeps c = omega (arith, c.loop-packet.invariant.keeps, c.reserve_piece-then-not-is_empty.ensures.keeps)
+
+pub returns-in_err-reserve_piece-2-clause-capacity : goal.returns-in_err-reserve_piece-2-clause-capacity
+returns-in_err-reserve_piece-2-clause-capacity c = omega (arith, c.loop-packet.invariant.capacity, c.reserve_piece-then-not-is_empty.ensures.capacity)
+
 pub returns-in_err-reserve_piece-2-clause-pieces : goal.returns-in_err-reserve_piece-2-clause-pieces
 returns-in_err-reserve_piece-2-clause-pieces c =
     let i = c.loop-packet.invariant in
     on_err c.from_residual-in_err-reserve_piece-2.result _ (λ none. octets_come c.loop-packet.self-inside i.is (omega (arith, eqb-false _ _ (sym c.is_empty.ensures ∙ c.if-not-is_empty.true))) (i.left ∙ none))
+
+-- the memory was reserved, so it isn't refused here
+pub returns-in_err-frames-2-clause-piece : goal.returns-in_err-frames-2-clause-piece
+returns-in_err-frames-2-clause-piece c = absurd (omega (arith, c.in_err-frames-2.ensures.full, c.in_ok-reserve_piece-2.ensures.ready, c.in_ok-reserve_piece-2.ensures.room))
+
+pub returns-in_err-frames-2-clause-end : goal.returns-in_err-frames-2-clause-end
+returns-in_err-frames-2-clause-end c = absurd (omega (arith, c.in_err-frames-2.ensures.full, c.in_ok-reserve_piece-2.ensures.ready, c.in_ok-reserve_piece-2.ensures.room))
+
+pub returns-in_err-frames-2-clause-full : goal.returns-in_err-frames-2-clause-full
+returns-in_err-frames-2-clause-full c = absurd (omega (arith, c.in_err-frames-2.ensures.full, c.in_ok-reserve_piece-2.ensures.ready, c.in_ok-reserve_piece-2.ensures.room))
+
+pub returns-in_err-frames-2-clause-pieces : goal.returns-in_err-frames-2-clause-pieces
+returns-in_err-frames-2-clause-pieces c = absurd (omega (arith, c.in_err-frames-2.ensures.full, c.in_ok-reserve_piece-2.ensures.ready, c.in_ok-reserve_piece-2.ensures.room))
+
+pub returns-in_err-frames-2-clause-unchanged : goal.returns-in_err-frames-2-clause-unchanged
+returns-in_err-frames-2-clause-unchanged c = absurd (omega (arith, c.in_err-frames-2.ensures.full, c.in_ok-reserve_piece-2.ensures.ready, c.in_ok-reserve_piece-2.ensures.room))
+
+pub returns-in_err-frames-2-clause-keeps : goal.returns-in_err-frames-2-clause-keeps
+returns-in_err-frames-2-clause-keeps c = omega (arith, c.loop-packet.invariant.keeps, c.reserve_piece-then-not-is_empty.ensures.keeps, c.add_filling.ensures.keeps)
+
+pub returns-in_err-frames-2-clause-capacity : goal.returns-in_err-frames-2-clause-capacity
+returns-in_err-frames-2-clause-capacity c = omega (arith, c.loop-packet.invariant.capacity, c.reserve_piece-then-not-is_empty.ensures.capacity, c.add_filling.ensures.capacity)
+
+pub returns-then-not-is_empty-clause-keeps : goal.returns-then-not-is_empty-clause-keeps
+returns-then-not-is_empty-clause-keeps c = omega (arith, c.loop-packet.invariant.keeps, c.reserve_piece-then-not-is_empty.ensures.keeps, c.add_filling.ensures.keeps)
+
+pub returns-then-not-is_empty-clause-capacity : goal.returns-then-not-is_empty-clause-capacity
+returns-then-not-is_empty-clause-capacity c = omega (arith, c.loop-packet.invariant.capacity, c.reserve_piece-then-not-is_empty.ensures.capacity, c.add_filling.ensures.capacity)
 
 pub returns-then-not-is_empty-clause-piece : goal.returns-then-not-is_empty-clause-piece
 returns-then-not-is_empty-clause-piece c = λ _.

@@ -1,5 +1,5 @@
 -- The lines of packets that only one of two recordings delivers.
-use Rattle.std.proofs.Common.{◌≡◌, ℕ, zero, suc, ◌+◌, ◌-◌, ◌<◌, ◌≤◌, Bool, true, false, List, [], ◌∷◌, ◌++◌, length, take, drop, get_or, refl, sym, ◌∙◌, ap, arith, append_assoc}
+use Rattle.std.proofs.Common.{◌≡◌, ℕ, zero, suc, ◌+◌, ◌-◌, ◌<◌, ◌≤◌, true, false, List, [], ◌∷◌, ◌++◌, length, take, drop, get_or, refl, sym, ◌∙◌, ap, arith, append_assoc}
 use Rattle.std.proofs.Common.{append-nil, Option}
 use Rattle.std.specs.Prelude.{flat_map}
 use Rattle.std.specs.List.{range_with_len}
@@ -12,7 +12,8 @@ use Rattle.sl_engine.specs.Io.Output.{Adds}
 use Rattle.sl_engine.specs.Io.Streams.{StopsWriting, WritesText}
 use Rattle.sl_engine.proofs.lemmas.Io.Streams.{adds_both, adds_lines, stops_first, stops_then}
 use Rattle.sl_pair.specs.Placed.{Placed}
-use Rattle.sl_pair.specs.Runs.{count_of, first_run, goes_on, runs_of}
+use Rattle.sl_pair.specs.Runs.{count_of, first_run}
+use Rattle.sl_pair.proofs.OrderLemmas.{runs_split}
 use Rattle.sl_pair.specs.declared.channel.Station.{Station}
 use Rattle.sl_engine.specs.Verbs.Packets.Line.{packet_line}
 use Rattle.sl_engine.specs.Compare.Text.{left_text, mark, run_line, run_text}
@@ -36,33 +37,6 @@ pub add_line : (lines mark name text : List ℕ) → ((lines ++ mark) ++ name) +
 add_line lines mark name text = append_assoc (lines ++ mark) name text ∙ append_assoc lines mark (name ++ text)
 
 -- ---- run by run
-
--- the first run has a packet, and no more than there are
-pub first_some : (left : List Placed) → 0 < length left → (1 ≤ first_run left) × (first_run left ≤ length left)
-first_some [] some = absurd (omega (arith, some))
-first_some (one ∷ []) some = (omega arith, omega arith)
-first_some (one ∷ next ∷ later) some = go (first_some (next ∷ later) (omega arith)) (goes_on one next) refl
-  where
-    go : (1 ≤ first_run (next ∷ later)) × (first_run (next ∷ later) ≤ length (next ∷ later)) → (goes : Bool) → goes_on one next ≡ goes
-        → (1 ≤ first_run (one ∷ next ∷ later)) × (first_run (one ∷ next ∷ later) ≤ length (one ∷ next ∷ later))
-    go more true is = rw is (omega (arith, more.0), omega (arith, more.1))
-    go more false is = rw is (omega arith, omega arith)
-
--- the runs are the first one, and those of what is behind it
-pub runs_split : (left : List Placed) → 0 < length left → runs_of left ≡ take (first_run left) left ∷ runs_of (drop (first_run left) left)
-runs_split [] some = absurd (omega (arith, some))
-runs_split (one ∷ []) some = refl
-runs_split (one ∷ next ∷ later) some =
-    go (first_run (next ∷ later)) (first_some (next ∷ later) (omega arith)).0 refl (runs_split (next ∷ later) (omega arith)) (goes_on one next) refl
-  where
-    go : (n : ℕ) → 1 ≤ n → first_run (next ∷ later) ≡ n → runs_of (next ∷ later) ≡ take (first_run (next ∷ later)) (next ∷ later) ∷ runs_of (drop (first_run (next ∷ later)) (next ∷ later))
-        → (goes : Bool) → goes_on one next ≡ goes
-        → runs_of (one ∷ next ∷ later) ≡ take (first_run (one ∷ next ∷ later)) (one ∷ next ∷ later) ∷ runs_of (drop (first_run (one ∷ next ∷ later)) (one ∷ next ∷ later))
-    go zero some are behind goes is = absurd (omega (arith, some))
-    go (suc m) some are behind true is =
-        let n : suc m + 1 ≡ suc (suc m) = omega arith in
-        rw (rw are at behind, is, are, n) refl
-    go (suc m) some are behind false is = rw (rw are at behind, is) (ap (λ l. (one ∷ []) ∷ l) (sym (rw are at behind)))
 
 -- the lines of the first run come before those of what is behind it
 pub runs_text_split : (station : Station) (name : List ℕ) (left : List Placed) → 0 < length left

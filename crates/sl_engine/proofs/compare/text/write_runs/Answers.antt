@@ -2,7 +2,8 @@ use Rattle.std.proofs.Common.{false, length-drop, ◌≡◌, ◌∙◌, ap, arit
 use Rattle.sl_pair.specs.Runs.{first_run}
 use Rattle.sl_engine.specs.Compare.Text.{left_text}
 use Rattle.sl_engine.specs.Verbs.Packets.Printed.{channel_name}
-use Rattle.sl_engine.proofs.lemmas.Compare.Text.{first_some, runs_text_split, writing_next, writing_none, writing_stops}
+use Rattle.sl_engine.proofs.lemmas.Compare.Text.{runs_text_split, writing_next, writing_none, writing_stops}
+use Rattle.sl_pair.proofs.OrderLemmas.{first_some}
 use Rattle.sl_engine.proofs.lemmas.Io.Streams.{adds_both, adds_lines, stops_before}
 use Rattle.sl_engine.proofs.lemmas.Link.Answers.{passed_up}
 use Rattle.sl_engine.proofs.compare.text.write_runs.Goals as goal

@@ -113,6 +113,7 @@ fn push_content(lines: &mut Lines, plain: bool, carried: TcContent)
     }
 }
 
+#[inline(always)]
 fn push_unit(lines: &mut Lines, plain: bool, unit: &[u8])
     requires room { HasRoomFor fields_width lines.old }
     requires some { 0 < length unit.now }

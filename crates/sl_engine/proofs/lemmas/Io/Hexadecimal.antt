@@ -78,7 +78,7 @@ eight_digits t octets long fits = ap (swz_l w8 16 t 0) (halves_of_eight octets l
 
 -- ---- the same of 32 octets, where the digits stand in the table four times, once for each sixteen lanes
 
-abbrev pub four_times : List ℕ → List ℕ
+abbrev four_times : List ℕ → List ℕ
 four_times t = t ++ (t ++ (t ++ t))
 
 place : (q h : ℕ) → q < 4 → h < 16 → get_or (four_times lower_digits) (16 * q + h) 0 ≡ slice_index lower_digits h
@@ -118,7 +118,7 @@ lanes_ok octets long fits =
     subst (SwzOk w8 16 64 0) (sym (halves_of_lanes octets long))
     (SwzOk-from_below w8 16 4 64 0 (halves octets) refl (omega (arith, length-halves octets, long)) (halves_below octets fits))
 
-pub lanes_digits : (octets : List ℕ) → length octets ≡ 32 → Each1 (Fits w8) octets
+lanes_digits : (octets : List ℕ) → length octets ≡ 32 → Each1 (Fits w8) octets
     → swz_l w8 16 (four_times lower_digits) 0 (halves_in_lanes octets) ≡ encode_lower octets
 lanes_digits octets long fits = ap (swz_l w8 16 (four_times lower_digits) 0) (halves_of_lanes octets long) ∙ digits_in_lanes octets 0 (omega (arith, long)) fits
 

@@ -1,6 +1,4 @@
-use Rattle.std.proofs.Common.{◌≡◌, ◌∙◌, ap, List, ℕ, refl}
-use Rattle.hex.specs.Hex.{lower_digits}
-use Rattle.sl_engine.proofs.lemmas.Io.Hexadecimal.{four_times, halves_in_lanes, lanes_ok, lanes_digits, swz_table}
+use Rattle.sl_engine.proofs.lemmas.Io.Hexadecimal.{lanes_ok, swz_table}
 use Rattle.sl_engine.proofs.io.hexadecimal.Hexadecimals.of_thirty_two.Goals as goal
 
 pub swizzle : goal.swizzle

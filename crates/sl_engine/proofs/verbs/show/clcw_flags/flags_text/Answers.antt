@@ -1,4 +1,4 @@
-use Rattle.std.proofs.Common.{◌∙◌, [], get_or, ap, arith, ℕ}
+use Rattle.std.proofs.Common.{◌∙◌, [], get_or, ap, ℕ}
 use Rattle.sl_engine.specs.declared.verbs.show.clcw_flags.TheConstants.{TEXTS}
 use Rattle.sl_engine.proofs.lemmas.Verbs.Show.Flags.{flags_at}
 use Rattle.sl_engine.proofs.verbs.show.clcw_flags.flags_text.Goals as goal

@@ -1,4 +1,4 @@
-use Rattle.std.proofs.Common.{◌≡◌, ◌+◌, ◌*◌, ◌∙◌, [], take, get_or, ap, arith, ℕ}
+use Rattle.std.proofs.Common.{◌∙◌, [], take, get_or, ap, arith, ℕ}
 use Rattle.sl_engine.specs.declared.verbs.show.segment_texts.TheConstants.{TEXTS}
 use Rattle.sl_engine.proofs.lemmas.Verbs.Show.Segments.{header_at, header_short}
 use Rattle.sl_engine.proofs.verbs.show.segment_texts.header_text.Goals as goal

@@ -1,4 +1,4 @@
-use Rattle.std.proofs.Common.{◌∙◌, [], get_or, ap, arith, ℕ}
+use Rattle.std.proofs.Common.{◌∙◌, [], get_or, ap, ℕ}
 use Rattle.sl_engine.specs.declared.verbs.packets.lines.header_bits.TheConstants.{TEXTS}
 use Rattle.sl_engine.proofs.lemmas.Verbs.Packets.Bits.{bits_at}
 use Rattle.sl_engine.proofs.verbs.packets.lines.header_bits.bits_text.Goals as goal

@@ -1,5 +1,6 @@
 pub mod AcceptedUnit
 pub mod Anomaly
+pub mod CountStore
 pub mod Farms
 pub mod Fits
 pub mod Form
@@ -23,12 +24,16 @@ pub mod SeriesStoreModel
 pub mod StepReport
 pub mod StepReportModel
 pub mod TcNormalForm
+pub mod UnitCount
+pub mod UnitCounter
+pub mod UnitCounterModel
 pub use Rattle.sl_cop.specs.Farm
 pub use Rattle.sl_cop.specs.FarmClcw
 pub use Rattle.sl_cop.specs.Reordered
 pub use Rattle.sl_cop.specs.Starts
 pub use Rattle.sl_fields.specs.SegmentHeader
 pub use Rattle.sl_packet.specs.Delivered
+pub use Rattle.sl_packet.specs.Outline
 pub use Rattle.sl_packet.specs.Packets
 pub use Rattle.sl_packet.specs.Sink
 pub use Rattle.sl_packet.specs.Stopping

@@ -21,9 +21,11 @@
 #![tactic(auto)]
 
 // From the bottom: `segment`, `report`, `hand_over`, `incomplete`, `series_store`, `farms` and
-// `receiver` take packets out of frames; `frames`, `form` and `reframe` write frames, and `fits`
-// tests which packets these can carry. A `pub fn` of these modules is public only in `laws`, or if
+// `receiver` take packets out of frames; `unit_count`, `series_count`, `count_store` and
+// `unit_counter` count them; `frames`, `form` and `reframe` write frames, and `fits` tests which
+// packets these can carry. A `pub fn` of these modules is public only in `laws`, or if
 // it or its type stands in a `pub use` below; specs call the others private.
+mod count_store;
 mod farms;
 mod fits;
 mod form;
@@ -35,7 +37,10 @@ mod receiver;
 mod reframe;
 mod report;
 mod segment;
+mod series_count;
 mod series_store;
+mod unit_count;
+mod unit_counter;
 
 pub use farms::Farms;
 pub use fits::fits_tc;
@@ -43,3 +48,4 @@ pub use form::{PIECE_ROOM, TcForm};
 pub use receiver::Receiver;
 pub use reframe::reframe_tc;
 pub use report::TcStep;
+pub use unit_counter::UnitCounter;

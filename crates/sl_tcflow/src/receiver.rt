@@ -16,12 +16,11 @@ ghost use Rattle.sl_tcflow.specs.Receiver.{ended_by, unit_channel, unit_map};
 ghost use Rattle.sl_tcflow.specs.Reception.{segments_of};
 ghost use Rattle.sl_tcflow.specs.ReceptionParameters.{ReceptionParameters};
 ghost use Rattle.sl_tcflow.specs.Recording.{channel_at};
-ghost use Rattle.sl_tcflow.specs.Segment.{accepted_segment, map_read};
 ghost use Rattle.sl_tcflow.specs.StepReport.{counts_of};
 
 use crate::farms::Farms;
 use crate::report::{EMPTY_STEP, TcStep};
-use crate::segment::{Segment, carried_segment};
+use crate::segment::{accepted, carried_segment, map_in};
 use crate::series_store::SeriesStore;
 use sl_cop::{Starts, Verdict, Window};
 use sl_fields::Clcw;
@@ -288,28 +287,5 @@ fn take_unit<S: PacketSink>(
             map,
             ..EMPTY_STEP
         }),
-    }
-}
-
-// The segment of a frame's unit, where this verdict accepts it.
-#[inline(always)]
-fn accepted<'a>(verdict: Verdict, segment: Option<Segment<'a>>) -> Option<Segment<'a>>
-    ensures { result ≡ accepted_segment verdict segment.entry }
-{
-    match verdict {
-        Verdict::Accept => segment,
-        _ => None,
-    }
-}
-
-// The MAP of a frame's segment, and 0 where the frame carries none.
-#[inline(always)]
-fn map_in(segment: &Option<Segment>) -> u8
-    ensures value { result ≡ map_read segment.now }
-    ensures most { result ≤ 63 }
-{
-    match segment {
-        Some(segment) => segment.map_id,
-        None => 0,
     }
 }

@@ -4,9 +4,10 @@ ghost use Rattle.std.specs.Prelude.{◌≡◌, ◌≤◌, IfSome};
 use sl_cop::Verdict;
 use std::marker::Model;
 
-/// The report of a [`Receiver`](crate::Receiver) on one frame: the verdict on the frame, the MAP of
-/// its unit, and what the unit brought. A unit that isn't accepted brings nothing, and neither does
-/// a frame without a unit. Then all values but the verdict and the MAP are `false`, `None` or 0.
+/// The report of a [`Receiver`](crate::Receiver) or a [`UnitCounter`](crate::UnitCounter) on one
+/// frame: the verdict on the frame, the MAP of its unit, and what the unit brought. A unit that isn't
+/// accepted brings nothing, and neither does a frame without a unit. Then all values but the verdict
+/// and the MAP are `false`, `None` or 0.
 #[derive(Clone, Copy, Debug, PartialEq, Eq)]
 pub struct TcStep {
     pub(crate) verdict: Verdict,

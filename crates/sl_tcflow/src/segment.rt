@@ -1,9 +1,10 @@
 //! Segments, as they are read from frames.
 ghost use Rattle.std.specs.Prelude.{◌≡◌, ◌≤◌, ◌<◌, length};
 ghost use Rattle.sl_tcframe.specs.TcFrame.{longest_unit};
-ghost use Rattle.sl_tcflow.specs.Segment.{carried_segment, segment_view};
+ghost use Rattle.sl_tcflow.specs.Segment.{accepted_segment, carried_segment, map_read, segment_view};
 ghost use Rattle.sl_tcflow.specs.Series.{segment_in};
 
+use sl_cop::Verdict;
 use sl_fields::{SegmentHeader, front};
 use sl_tcframe::{TcContent, TcFrame};
 use std::marker::Model;
@@ -59,6 +60,29 @@ pub fn carried_segment<'a>(frame: &TcFrame<'a>, plain: bool) -> Option<Segment<'
             Some(read_segment(frame.vc(), plain, unit))
         }
         TcContent::Unlock | TcContent::SetVr(_) => None,
+    }
+}
+
+/// The segment of a frame's unit, where this verdict accepts it.
+#[inline(always)]
+pub fn accepted<'a>(verdict: Verdict, segment: Option<Segment<'a>>) -> Option<Segment<'a>>
+    ensures { result ≡ accepted_segment verdict segment.entry }
+{
+    match verdict {
+        Verdict::Accept => segment,
+        _ => None,
+    }
+}
+
+/// The MAP of a frame's segment, and 0 where the frame carries none.
+#[inline(always)]
+pub fn map_in(segment: &Option<Segment>) -> u8
+    ensures value { result ≡ map_read segment.now }
+    ensures most { result ≤ 63 }
+{
+    match segment {
+        Some(segment) => segment.map_id,
+        None => 0,
     }
 }
 

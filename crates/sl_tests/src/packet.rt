@@ -150,7 +150,11 @@ fn packets_lie_end_to_end(rt: HostRuntime) {
 fn packets_end_to_end_are_counted(rt: HostRuntime) {
     let counted = count_packets(&OCTETS);
     let is_counted = (counted.packets, counted.idle) == (2, 1);
-    holds(&rt, &counted, is_counted && counted.remainder == REST.as_slice());
+    holds(
+        &rt,
+        &counted,
+        is_counted && counted.remainder == REST.as_slice(),
+    );
 }
 
 // Whether the outlines of octets, as a whole and in two parts, answer what the octets do.

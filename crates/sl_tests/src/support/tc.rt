@@ -6,7 +6,7 @@ use super::packets::delivered_of;
 use super::rows::Stop;
 use sl_cop::{Starts, Verdict};
 use sl_packet::{Delivered, FlowFault, PacketSink};
-use sl_tcflow::{Farms, Receiver, TcStep, fits_tc, reframe_tc};
+use sl_tcflow::{Farms, Receiver, TcStep, UnitCounter, fits_tc, reframe_tc};
 use sl_tcframe::{TcFrame, TcShape, TcSkip, VcSet};
 use std::alloc::Global;
 
@@ -48,6 +48,12 @@ pub fn receiver(alloc: Global, vr: u8) -> Result<Receiver, Stop> {
 pub fn receiver_with(alloc: Global, starts: &Starts, plain: VcSet) -> Result<Receiver, Stop> {
     let window = window(10)?;
     Ok(Receiver::new(alloc, window, starts, plain))
+}
+
+/// A counter with a window of 10, V(R) 0 and segment headers on each virtual channel.
+pub fn counter() -> Result<UnitCounter, Stop> {
+    let window = window(10)?;
+    Ok(UnitCounter::new(window, &Starts::all(0), VcSet::new()))
 }
 
 /// FARM-1 of each virtual channel, with a window of 10 and this V(R).

@@ -7,9 +7,9 @@ use super::{
 use crate::support::packets::{has, longest, none};
 use crate::support::recordings::{LEAST, LONGER};
 use crate::support::rows::{Stop, holds, passes};
-use crate::support::tc::{anomalies_of, held, receiver, step_of};
+use crate::support::tc::{anomalies_of, counter, frame, held, receiver, shape, step_of};
 use sl_packet::Delivered;
-use sl_tcflow::Receiver;
+use sl_tcflow::{Receiver, UnitCounter};
 use std::alloc::Global;
 use std::process::Abort;
 
@@ -86,6 +86,42 @@ fn is_told(receiver: &mut Receiver, delivered: &mut Delivered, row: &Frame) -> R
     }
     let anomalies = anomalies_of(receiver, frame, delivered)?;
     Ok(anomalies == *told && held(receiver, *vc, *map) == *octets)
+}
+
+// Whether a counter's report on a frame is what a receiver answers, and this is held after it.
+fn is_counted(
+    counter: &mut UnitCounter,
+    receiver: &mut Receiver,
+    delivered: &mut Delivered,
+    row: &Frame,
+) -> Result<bool, Stop> {
+    let (octets, _, (vc, map, held)) = row;
+    if *vc > 63 || *map > 63 {
+        return Err(Stop::Absent);
+    }
+    let step = counter.frame(&frame(&shape(1024, false)?, octets)?);
+    let is_held = (counter.held(*vc, *map), counter.is_open(*vc, *map)) == *held;
+    let open_from = counter.none_open_from();
+    let is_told = step == step_of(receiver, octets, delivered)?;
+    Ok(is_told && is_held && open_from == receiver.none_open_from())
+}
+
+fn is_series_counted(rt: &impl Abort, alloc: Global, frames: &[Frame]) -> Result<bool, Stop> {
+    let mut counter = counter()?;
+    let mut receiver = receiver(alloc, 0)?;
+    let mut delivered = none(alloc);
+    for row in frames {
+        let is_so = is_counted(&mut counter, &mut receiver, &mut delivered, row);
+        passes(rt, row, is_so);
+    }
+    Ok(true)
+}
+
+#[test]
+fn a_counter_reports_what_a_receiver_does(rt: HostRuntime) {
+    for (name, frames, _) in &SERIES {
+        passes(&rt, name, is_series_counted(&rt, rt.alloc(), frames));
+    }
 }
 
 // Whether nothing is held before the frames, and the packets are these after them.

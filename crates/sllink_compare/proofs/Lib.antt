@@ -1,6 +1,12 @@
+-- worked examples of the questions
+mod QuestionFacts
+-- words that are asked about
+mod AskingLemmas
+-- the place of a word of the command line
+mod CommandLineLemmas
 -- places that pass a test
 mod QuestionLemmas
--- words in a row
+-- texts in a row
 mod TotalsLemmas
 -- texts that are written one after another
 mod WritingLemmas

@@ -1,10 +1,7 @@
 -- Places that pass a test.
-use Rattle.std.proofs.Common.{◌≡◌, ◌∙◌, ap, sym, List, None, Some, ℕ, zero, suc, ◌+◌, ◌<◌, ◌≤◌, Bool, true, false, ◌||◌, refl, arith}
-use Rattle.std.specs.Prelude.{nat_lt, if◌then◌else◌}
+use Rattle.std.proofs.Common.{◌≡◌, ℕ, zero, suc, ◌+◌, ◌<◌, ◌≤◌, Bool, true, false, ◌||◌, refl, arith}
+use Rattle.std.specs.Prelude.{nat_lt}
 use Rattle.std.specs.List.{list_any, range_with_len}
-use Rattle.sl_pair.specs.declared.pairing.Answer.{Answer}
-use Rattle.sllink_compare.specs.Questions.{differs, has_other_lines}
-use Rattle.sllink_compare.specs.declared.questions.Question.TheVariants.{Lines}
 
 or_true : (b : Bool) → (b || true) ≡ true
 or_true true = refl
@@ -30,21 +27,3 @@ no_place test a (suc n) place is none fails = go (λ others. no_place test (a + 
         → (first || list_any test (range_with_len (a + 1) n)) ≡ false → (first || list_any test (range_with_len (a + 1) (suc n))) ≡ false
     go rest true none = none
     go rest false none = rest none
-
--- what follows where no packet differs, and some word has lines, or none
-module _ (answer : Answer) (allowed : List Bool) {first first' second second' : List ℕ} {different other : Bool} (firsts : first ≡ first') (seconds : second ≡ second')
-    (different_is : different ≡ differs answer) (same : different ≡ false) (other_is : other ≡ has_other_lines allowed first second) where
-  others : other ≡ has_other_lines allowed first' second'
-  others = other_is ∙ ap (λ f. has_other_lines allowed f second) firsts ∙ ap (λ s. has_other_lines allowed first' s) seconds
-
-  pub lines_asked : other ≡ true → Some Lines ≡ (if differs answer then None else if has_other_lines allowed first' second' then Some Lines else None)
-  lines_asked holds = asked (differs answer) (has_other_lines allowed first' second') (sym different_is ∙ same) (sym others ∙ holds)
-    where
-      asked : (d h : Bool) → d ≡ false → h ≡ true → Some Lines ≡ (if d then None else if h then Some Lines else None)
-      asked d h is_d is_h = rw (is_d, is_h) refl
-
-  pub lines_not_asked : other ≡ false → None ≡ (if differs answer then None else if has_other_lines allowed first' second' then Some Lines else None)
-  lines_not_asked fails = not_asked (differs answer) (has_other_lines allowed first' second') (sym different_is ∙ same) (sym others ∙ fails)
-    where
-      not_asked : (d h : Bool) → d ≡ false → h ≡ false → None ≡ (if d then None else if h then Some Lines else None)
-      not_asked d h is_d is_h = rw (is_d, is_h) refl

@@ -1,6 +1,6 @@
 -- Why nothing can be said of two recordings: the questions, and which of them is asked.
 use Rattle.std.specs.Prelude.{ℕ, ◌+◌, ◌-◌, ◌*◌, ◌==◌, nat_lt, Bool, true, false, not, ◌&&◌, ◌||◌, if◌then◌else◌}
-use Rattle.std.specs.Prelude.{List, [], ◌∷◌, Option, None, Some}
+use Rattle.std.specs.Prelude.{List, Option, None, Some}
 use Rattle.std.specs.List.{count_by, list_any, range_with_len, slice_index_or}
 use Rattle.std.specs.Option.{option_or}
 use Rattle.sl_engine.specs.Compare.Signs.{looked_at}
@@ -10,6 +10,7 @@ use Rattle.sl_pair.specs.declared.channel.Station.{Station}
 use Rattle.sl_pair.specs.declared.channel.Station.TheVariants.{First, Second}
 use Rattle.sl_pair.specs.declared.pairing.Answer.{Answer}
 use Rattle.sl_pair.specs.declared.pairing.Answer.TheVariants.{Same, Reordered, Different}
+use Rattle.sllink_compare.specs.Words.{number_at}
 use Rattle.sllink_compare.specs.declared.questions.Allowed.{Allowed}
 use Rattle.sllink_compare.specs.declared.questions.Doubt.{Doubt}
 use Rattle.sllink_compare.specs.declared.questions.Doubt.TheVariants.{Gaps, Long, Field}
@@ -89,21 +90,17 @@ most_question allowed first second =
 
 -- ---- has `check` lines that may matter?
 
--- how many lines of each word there are, in the order in which the words are written
-abbrev pub numbers_of : WordCounts → List ℕ
-numbers_of it =
-    it.skip ∷ it.gap ∷ it.dropped ∷ it.opaque ∷ it.foreign ∷ it.rest ∷ it.incomplete ∷ it.early ∷ it.late
-    ∷ it.outside ∷ it.refused ∷ it.stray ∷ it.long ∷ it.tail ∷ []
-
 -- the word at this place isn't allowed, and a recording has a line with it
-abbrev pub is_other : List Bool → List ℕ → List ℕ → ℕ → Bool
-is_other allowed first second place =
-    (nat_lt 0 (slice_index_or first place 0) || nat_lt 0 (slice_index_or second place 0))
-    && not (slice_index_or allowed place false)
+abbrev pub is_other : List Bool → WordCounts → ℕ → Bool
+is_other allowed counts place = nat_lt 0 (number_at counts place) && not (slice_index_or allowed place false)
 
 -- some word isn't allowed, and a recording has a line with it
-abbrev pub has_other_lines : List Bool → List ℕ → List ℕ → Bool
-has_other_lines allowed first second = list_any (is_other allowed first second) (range_with_len 0 14)
+abbrev pub has_other_lines : List Bool → WordCounts → Bool
+has_other_lines allowed counts = list_any (is_other allowed counts) (range_with_len 0 14)
+
+-- the word at this place isn't allowed, and one of two recordings has a line with it
+abbrev pub is_asked : List Bool → WordCounts → WordCounts → ℕ → Bool
+is_asked allowed first second place = is_other allowed first place || is_other allowed second place
 
 -- packets differ
 abbrev pub differs : Answer → Bool
@@ -114,8 +111,8 @@ differs Different = true
 abbrev pub lines_question : Answer → Allowed → Seen → Seen → Option Question
 lines_question answer allowed first second =
     if differs answer then None
-    else if has_other_lines allowed.lines (numbers_of first.summary.words) (numbers_of second.summary.words)
-    then Some Lines else None
+    else asked_of Lines (station_where (has_other_lines allowed.lines first.summary.words)
+    (has_other_lines allowed.lines second.summary.words))
 
 -- ---- what is asked
 

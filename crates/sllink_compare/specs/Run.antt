@@ -2,6 +2,7 @@
 use Rattle.std.specs.Prelude.{◌≡◌, ◌⊎◌, ◌↔◌, ⊤, ℕ, Bool, List, [], ◌++◌, codes, Option, None, Some}
 use Rattle.sl_io.specs.declared.counted.Counted.{Counted}
 use Rattle.sl_io.specs.declared.fault.LinkFault.{LinkFault}
+use Rattle.sl_io.specs.declared.fault.LinkFault.TheVariants.{Read, TooLong, Memory, Write}
 use Rattle.sl_io.specs.Streams.{ReadsAll, StopsReading, StopsWriting, WritesText}
 use Rattle.sl_engine.specs.Compare.{ReadsBeginning, by_channel}
 use Rattle.sl_engine.specs.Compare.Summarised.{tc_summary, tm_summary}
@@ -18,6 +19,7 @@ use Rattle.sl_engine.specs.declared.engine.RecordingKind.TheVariants.{Tm, Tc}
 use Rattle.sl_pair.specs.Pairing.{ByChannel, NothingIsLeft}
 use Rattle.sl_pair.specs.declared.pairing.Answer.{Answer}
 use Rattle.sl_pair.specs.declared.pairing.Answer.TheVariants.{Same, Reordered, Different}
+use Rattle.sllink_compare.specs.Asking.{question_text}
 use Rattle.sllink_compare.specs.Questions.{question_of}
 use Rattle.sllink_compare.specs.Totals.{totals_text}
 use Rattle.sllink_compare.specs.declared.questions.Question.{Question}
@@ -86,10 +88,31 @@ status_of None Same = 0
 status_of None Reordered = 1
 status_of None Different = 1
 
+-- ---- what the error output gets
+
+-- the line of a fault
+abbrev pub fault_text : LinkFault → List ℕ
+fault_text Read = codes "sllink-compare: read\n"
+fault_text TooLong = codes "sllink-compare: too long\n"
+fault_text Memory = codes "sllink-compare: memory\n"
+fault_text Write = codes "sllink-compare: write\n"
+
+module _ {E : Type 0} (heard : E → Option (List ℕ)) where
+  -- a line was written, or a fault of the error output cut it short
+  abbrev pub Says : Counted E → Counted E → List ℕ → Type 0
+  Says errors errors' line =
+      WritesText heard errors errors' line ⊎ ((fault : LinkFault) × StopsWriting heard errors errors' line ⊥ fault)
+
+  -- the line of the question that is open was written, and without one nothing
+  abbrev pub Asks : Counted E → Counted E → Comparison → Names → Summary → Summary → Option Question → Type 0
+  Asks errors errors' asked names first second None = errors' ≡ errors
+  Asks errors errors' asked names first second (Some question) =
+      Says errors errors' (question_text question asked names first second)
+
 -- ---- a run
 
 -- Two recordings and an answer: that both have the same packets exactly where they deliver the same lists, and that
--- they differ exactly where one of them has a packet that the other one hasn't.
+-- they differ exactly where one of them has a packet without a counterpart.
 pub record Answers (packets packets' : List ℕ → List (List (List ℕ))) (first second : List ℕ) (answer : Answer)
     : Type 0 where
   pub same : (answer ≡ Same) ↔ (packets first ≡ packets' second)
@@ -126,22 +149,27 @@ abbrev pub asked_of_both : Comparison → List ℕ → List ℕ → Answer → O
 asked_of_both asked first second answer =
     open_question asked answer (summary_of asked.kind asked.first first) (summary_of asked.kind asked.second second)
 
-module _ {A B W : Type 0} (remaining : A → Option (List ℕ)) (others : B → Option (List ℕ))
-    (contents : W → Option (List ℕ)) where
-  -- Both recordings were read to their ends, and all was written. This is the status.
+module _ {A B W E : Type 0} (remaining : A → Option (List ℕ)) (others : B → Option (List ℕ))
+    (contents : W → Option (List ℕ)) (heard : E → Option (List ℕ)) where
+  -- Both recordings were read to their ends, all was written, and the question that is open was asked. This is the
+  -- status.
   pub record HasEnded (one one' : Counted A) (other other' : Counted B) (writer writer' : Counted W)
-      (asked : Comparison) (names : Names) (status : ℕ) : Type 0 where
+      (errors errors' : Counted E) (asked : Comparison) (names : Names) (status : ℕ) : Type 0 where
     pub compared : HasCompared remaining others one one' other other' asked
     pub written : WritesText contents writer writer'
         (output_of asked names compared.first compared.second compared.answer)
     pub status_is : status
         ≡ status_of (asked_of_both asked compared.first compared.second compared.answer) compared.answer
+    pub said : Asks heard errors errors' asked names (summary_of asked.kind asked.first compared.first)
+        (summary_of asked.kind asked.second compared.second)
+        (asked_of_both asked compared.first compared.second compared.answer)
 
-  -- Some fault came: while the recordings were read, and then nothing was written, or afterwards, and then a prefix of
-  -- the text was written.
+  -- Some fault came, and its line was written: while the recordings were read, and then nothing was written, or
+  -- afterwards, and then a prefix of the text was written.
   pub record HasStopped (one one' : Counted A) (other other' : Counted B) (writer writer' : Counted W)
-      (asked : Comparison) (names : Names) : Type 0 where
+      (errors errors' : Counted E) (asked : Comparison) (names : Names) : Type 0 where
     pub fault : LinkFault
+    pub said : Says heard errors errors' (fault_text fault)
     pub stopped : (StopsComparing remaining others one one' other other' asked fault × (writer' ≡ writer))
         ⊎ ((compared : HasCompared remaining others one one' other other' asked)
         × StopsWriting contents writer writer'

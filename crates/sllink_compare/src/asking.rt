@@ -1,132 +1,268 @@
 //! A question, as a line.
+ghost use Rattle.std.specs.Prelude.{◌≡◌, ◌++◌, codes, string_bytes, IfOk, OnOk};
+ghost use Rattle.sllink_compare.specs.Asking.{asked_text, doubt_text, field_text, name_at};
+ghost use Rattle.sllink_compare.specs.Asking.{nothing_text, question_text, ratio_text, seen_text};
+ghost use Rattle.sllink_compare.specs.Asking.{skipped_text, station_of, summary_at, way_text};
 
-use crate::questions::{Doubt, Question, WORDS, is_other, numbers_of, text_of, with_predecessor};
+use crate::questions::{Doubt, Question, WORDS, is_asked, text_of, with_predecessor};
 use crate::run::Comparison;
-use crate::totals::Names;
-use sl_link::{RecordingKind, Summary};
+use crate::totals::{Names, mark_before};
+use sl_link::{RecordingKind, Summary, WordCounts};
 use sl_pair::Station;
-use std::io;
-use std::io::Write;
+use std::alloc::{AllocError, Global};
 
-/// Asks a question on the error output, in one line. Where `errors` fails the line is cut short.
-pub fn report_question<E: Write>(
+/// The line of a question.
+pub fn question_text(
+    alloc: Global,
     question: Question,
     comparison: &Comparison,
     names: &Names<'_>,
     first: &Summary,
     second: &Summary,
-    errors: &mut E,
-) {
-    let _ = write_question(question, comparison, names, first, second, errors);
+) -> Result<String, AllocError>
+    ensures { IfOk result (λ line. string_bytes line
+        ≡ question_text question comparison.now names.now first.now second.now) }
+{
+    let mut line = String::new(alloc);
+    line.push_str("sllink-compare: ")?;
+    push_seen(&mut line, question, comparison, names, first, second)?;
+    line.push_str("; are the options right? ")?;
+    line.push_str(way_text(question))?;
+    line.push_str("sllink-identify ")?;
+    line.push_str(name_at(station_of(question), names))?;
+    line.push_str(" says what it is\n")?;
+    Ok(line)
 }
 
-fn write_question<E: Write>(
+// Appends what is seen of a recording, or of both.
+fn push_seen(
+    line: &mut String,
     question: Question,
     comparison: &Comparison,
     names: &Names<'_>,
     first: &Summary,
     second: &Summary,
-    errors: &mut E,
-) -> io::Result<()> {
-    write!(errors, "sllink-compare: ")?;
+) -> Result<(), AllocError>
+    ensures { OnOk result (string_bytes line.new ≡ string_bytes line.old
+        ++ seen_text question comparison.now names.now first.now second.now) }
+{
     match question {
         Question::Options(station, doubt) => {
-            let (name, summary) = side_of(station, names, first, second);
-            write!(errors, "{name}: ")?;
-            write_doubt(doubt, comparison.kind, summary, errors)?;
-            write_end("--allow options says so; ", name, errors)
+            let summary = summary_at(station, first, second);
+            push_doubt(
+                line,
+                name_at(station, names),
+                doubt,
+                comparison.kind,
+                summary,
+            )
         }
-        Question::Nothing(Station::First) if second.totals.packets() == 0 => {
-            write!(errors, "neither recording delivers a packet")?;
-            write_end("--allow nothing says so; ", names.first, errors)
-        }
-        Question::Nothing(station) => {
-            let (name, _) = side_of(station, names, first, second);
-            write!(errors, "{name}: delivers no packet")?;
-            write_end("--allow nothing says so; ", name, errors)
-        }
+        Question::Nothing(station) => push_nothing(line, station, names, second),
         Question::Most(station) => {
-            let (name, summary) = side_of(station, names, first, second);
-            let (skipped, frames) = (summary.totals.skipped(), summary.totals.frames());
-            write!(errors, "{name}: {skipped} of {frames} frames are skipped")?;
-            write_end("--allow most says so; ", name, errors)
+            push_skipped(
+                line,
+                name_at(station, names),
+                summary_at(station, first, second),
+            )
         }
-        Question::Lines => {
-            let what = "no packet differs, but check has lines that --allow doesn't name";
-            write!(errors, "{what}")?;
-            write_words(comparison, first, second, errors)?;
-            write_end("", names.first, errors)
+        Question::Lines(_) => {
+            push_lines(line, &comparison.allowed.lines, &first.words, &second.words)
         }
     }
 }
 
-// The name and the numbers of a station's recording.
-fn side_of<'a>(
-    station: Station,
-    names: &Names<'a>,
-    first: &'a Summary,
-    second: &'a Summary,
-) -> (&'a str, &'a Summary) {
+// The name of a station's recording.
+fn name_at<'a>(station: Station, names: &Names<'a>) -> &'a str
+    ensures { result.now ≡ name_at station names.now }
+{
     match station {
-        Station::First => (names.first, first),
-        Station::Second => (names.second, second),
+        Station::First => names.first,
+        Station::Second => names.second,
     }
 }
 
-// What the frames of a recording show against its options.
-fn write_doubt<E: Write>(
+// The numbers of a station's recording.
+fn summary_at<'a>(station: Station, first: &'a Summary, second: &'a Summary) -> &'a Summary
+    ensures { result.now ≡ summary_at station first.now second.now }
+{
+    match station {
+        Station::First => first,
+        Station::Second => second,
+    }
+}
+
+// The station whose recording a question is about.
+fn station_of(question: Question) -> Station
+    ensures { result ≡ station_of question }
+{
+    match question {
+        Question::Options(station, _) => station,
+        Question::Nothing(station) => station,
+        Question::Most(station) => station,
+        Question::Lines(station) => station,
+    }
+}
+
+// Appends the name of a recording, and what its frames show against its options.
+fn push_doubt(
+    line: &mut String,
+    name: &str,
     doubt: Doubt,
     kind: RecordingKind,
     summary: &Summary,
-    errors: &mut E,
-) -> io::Result<()> {
-    match (doubt, kind) {
-        (Doubt::Gaps, _) => {
+) -> Result<(), AllocError>
+    ensures { OnOk result (string_bytes line.new ≡ string_bytes line.old
+        ++ (name.now ++ codes ": " ++ doubt_text doubt kind summary.now)) }
+{
+    line.push_str(name)?;
+    line.push_str(": ")?;
+    push_shown(line, doubt, kind, summary)
+}
+
+// Appends what the frames of a recording show against its options.
+fn push_shown(
+    line: &mut String,
+    doubt: Doubt,
+    kind: RecordingKind,
+    summary: &Summary,
+) -> Result<(), AllocError>
+    ensures { OnOk result (string_bytes line.new
+        ≡ string_bytes line.old ++ doubt_text doubt kind summary.now) }
+{
+    match doubt {
+        Doubt::Gaps => {
             let (gaps, frames) = (summary.words.gap, with_predecessor(summary));
-            write!(
-                errors,
-                "gaps before {gaps} of {frames} frames that have a predecessor"
+            push_ratio(
+                line,
+                "gaps before ",
+                gaps,
+                frames,
+                " frames that have a predecessor",
             )
         }
-        (Doubt::Long, _) => {
+        Doubt::Long => {
             let (long, own) = (summary.signs.long, summary.signs.own);
-            write!(errors, "{long} of {own} frames are longer than --tc-length")
+            push_ratio(line, "", long, own, " frames are longer than --tc-length")
         }
-        (Doubt::Field, RecordingKind::Tm) => {
-            let what = "--tm-fecf isn't given, and its frames have an error control field";
-            write!(errors, "{what}")
-        }
-        (Doubt::Field, RecordingKind::Tc) => {
-            let what = "--tc-fecf isn't given, and its frames have an error control field";
-            write!(errors, "{what}")
-        }
+        Doubt::Field => line.push_str(field_text(kind)),
     }
 }
 
-// The words of lines that aren't allowed.
-fn write_words<E: Write>(
-    comparison: &Comparison,
-    first: &Summary,
+// Appends so many of all, with what stands before and behind.
+fn push_ratio(
+    line: &mut String,
+    before: &str,
+    part: u64,
+    whole: u64,
+    behind: &str,
+) -> Result<(), AllocError>
+    ensures { OnOk result (string_bytes line.new ≡ string_bytes line.old
+        ++ ratio_text before.now part whole behind.now) }
+{
+    write!(line, "{before}{part} of {whole}{behind}")
+}
+
+// That the option which asks for an error control field isn't given.
+fn field_text(kind: RecordingKind) -> &'static str
+    ensures { result.now ≡ field_text kind }
+{
+    match kind {
+        RecordingKind::Tm => "--tm-fecf isn't given, and its frames have an error control field",
+        RecordingKind::Tc => "--tc-fecf isn't given, and its frames have an error control field",
+    }
+}
+
+// Appends that a recording, or neither, delivers a packet.
+fn push_nothing(
+    line: &mut String,
+    station: Station,
+    names: &Names<'_>,
     second: &Summary,
-    errors: &mut E,
-) -> io::Result<()> {
-    let (first, second) = (numbers_of(&first.words), numbers_of(&second.words));
+) -> Result<(), AllocError>
+    ensures { OnOk result (string_bytes line.new
+        ≡ string_bytes line.old ++ nothing_text station names.now second.now) }
+{
+    match station {
+        Station::First if second.totals.packets() == 0 => {
+            line.push_str("neither recording delivers a packet")
+        }
+        Station::First => push_silent(line, names.first),
+        Station::Second => push_silent(line, names.second),
+    }
+}
+
+// Appends that a recording delivers no packet.
+fn push_silent(line: &mut String, name: &str) -> Result<(), AllocError>
+    ensures { OnOk result (string_bytes line.new
+        ≡ string_bytes line.old ++ (name.now ++ codes ": delivers no packet")) }
+{
+    line.push_str(name)?;
+    line.push_str(": delivers no packet")
+}
+
+// Appends the name of a recording, and how many of its frames are skipped.
+fn push_skipped(line: &mut String, name: &str, summary: &Summary) -> Result<(), AllocError>
+    ensures { OnOk result (string_bytes line.new ≡ string_bytes line.old
+        ++ (name.now ++ codes ": " ++ skipped_text summary.now)) }
+{
+    let (skipped, frames) = (summary.totals.skipped(), summary.totals.frames());
+    line.push_str(name)?;
+    line.push_str(": ")?;
+    push_ratio(line, "", skipped, frames, " frames are skipped")
+}
+
+// Appends that lines aren't allowed, and their words.
+fn push_lines(
+    line: &mut String,
+    allowed: &[bool; 14],
+    first: &WordCounts,
+    second: &WordCounts,
+) -> Result<(), AllocError>
+    ensures { OnOk result (string_bytes line.new ≡ string_bytes line.old
+        ++ (codes "no packet differs, but check has lines that --allow doesn't name"
+        ++ asked_text allowed.now first.now second.now)) }
+{
+    line.push_str("no packet differs, but check has lines that --allow doesn't name")?;
+    push_asked(line, allowed, first, second)
+}
+
+// Appends the words that aren't allowed and of which one of the recordings has a line.
+fn push_asked(
+    line: &mut String,
+    allowed: &[bool; 14],
+    first: &WordCounts,
+    second: &WordCounts,
+) -> Result<(), AllocError>
+    ensures { OnOk result (string_bytes line.new ≡ string_bytes line.old
+        ++ asked_text allowed.now first.now second.now) }
+{
     let mut is_first = true;
     for place in 0..14 {
-        if is_other(&comparison.allowed.lines, &first, &second, place) {
-            let (mark, word) = (if is_first { ": " } else { "," }, text_of(WORDS[place]));
-            write!(errors, "{mark}{word}")?;
+        if is_asked(allowed, first, second, place) {
+            push_word(line, mark_before(is_first, ","), text_of(WORDS[place]))?;
             is_first = false;
         }
     }
     Ok(())
 }
 
-// What a question ends with.
-fn write_end<E: Write>(answer: &str, name: &str, errors: &mut E) -> io::Result<()> {
-    let what = "are the options right?";
-    writeln!(
-        errors,
-        "; {what} {answer}sllink-identify {name} says what it is"
-    )
+// Appends a mark and a word.
+fn push_word(line: &mut String, mark: &str, word: &str) -> Result<(), AllocError>
+    ensures { OnOk result (string_bytes line.new
+        ≡ string_bytes line.old ++ (mark.now ++ word.now)) }
+{
+    line.push_str(mark)?;
+    line.push_str(word)
+}
+
+// The word of `--allow` that answers a question. Lines are allowed by their words.
+fn way_text(question: Question) -> &'static str
+    ensures { result.now ≡ way_text question }
+{
+    match question {
+        Question::Options(..) => "--allow options says so; ",
+        Question::Nothing(_) => "--allow nothing says so; ",
+        Question::Most(_) => "--allow most says so; ",
+        Question::Lines(_) => "",
+    }
 }

@@ -1,4 +1,6 @@
 //! The command line.
+ghost use Rattle.std.specs.Prelude.{◌≡◌, ◌<◌, IfSome};
+ghost use Rattle.sllink_compare.specs.CommandLine.{allowed_with, kind_named, place_of, with_lines};
 
 use crate::questions::{Allowed, WORDS, text_of};
 use crate::run::Comparison;
@@ -82,7 +84,7 @@ lines of check do no harm, or that the answer to a question is yes:
   skip gap dropped opaque foreign rest open early late outside refused stray long tail
            lines of check with this word, asked about where no packet differs
   nothing  a recording delivers no packet
-  most     more than half of the frames of a recording are skipped
+  most     more than half of the frames of a recording that delivers packets are skipped
   options  the frames of a recording contradict its options
 On a pass with noise and losses --allow skip,gap is usual.
 
@@ -118,7 +120,7 @@ pub fn parse<'a>(alloc: Global, words: &'a [String]) -> Result<Asked<'a>, Refusa
         first: matches.get_str(FIRST).unwrap_or(""),
         second: matches.get_str(SECOND).unwrap_or(""),
         comparison: Comparison {
-            kind: kind_named(matches.get_str(KIND)),
+            kind: kind_named(matches.get_str(KIND).unwrap_or("")),
             first,
             second,
             allowed,
@@ -263,32 +265,75 @@ fn allowed_of(alloc: Global, matches: &ArgMatches<'_>) -> Result<Allowed, Refusa
     };
     for words in matches.get_strs(ALLOW).unwrap_or(&[]) {
         for word in words.split(',') {
-            allow(alloc, &mut allowed, word.trim())?;
+            let word = word.trim();
+            allowed = match allowed_with(allowed, word) {
+                Some(allowed) => allowed,
+                None => return Err(Refusal::Allow(String::from_str(alloc, word)?)),
+            };
         }
     }
     Ok(allowed)
 }
 
-// Allows what a word of `--allow` names.
-fn allow(alloc: Global, allowed: &mut Allowed, word: &str) -> Result<(), Refusal> {
-    match word {
-        "" => {}
-        "options" => allowed.options = true,
-        "nothing" => allowed.nothing = true,
-        "most" => allowed.most = true,
-        _ => match WORDS.iter().position(|one| text_of(*one) == word) {
-            Some(place) => allowed.lines[place] = true,
-            None => return Err(Refusal::Allow(String::from_str(alloc, word)?)),
-        },
+/// What is allowed with a word of `--allow` more, if it is one. An empty word adds nothing.
+pub fn allowed_with(allowed: Allowed, word: &str) -> Option<Allowed>
+    ensures { result ≡ allowed_with word.now allowed }
+{
+    if word == "" {
+        Some(allowed)
+    } else if word == "options" {
+        Some(Allowed {
+            options: true,
+            ..allowed
+        })
+    } else if word == "nothing" {
+        Some(Allowed {
+            nothing: true,
+            ..allowed
+        })
+    } else if word == "most" {
+        Some(Allowed {
+            most: true,
+            ..allowed
+        })
+    } else {
+        match place_of(word) {
+            Some(place) => Some(with_lines(allowed, place)),
+            None => None,
+        }
     }
-    Ok(())
 }
 
-// The kind of this name. Words without a kind, or with one that is neither, are refused, so the
-// other one is `tc`.
-fn kind_named(kind: Option<&str>) -> RecordingKind {
-    match kind {
-        Some("tm") => RecordingKind::Tm,
-        _ => RecordingKind::Tc,
+// A word of `check` is allowed too.
+fn with_lines(allowed: Allowed, place: usize) -> Allowed
+    requires { place < 14 }
+    ensures { result ≡ with_lines allowed place }
+{
+    let mut lines = allowed.lines;
+    lines[place] = true;
+    Allowed { lines, ..allowed }
+}
+
+// The place of a word of `check` in [`WORDS`], if it is one.
+fn place_of(word: &str) -> Option<usize>
+    ensures place { result ≡ place_of word.now }
+    ensures inside { IfSome result (λ place. place < 14) }
+{
+    for place in 0..14 {
+        if text_of(WORDS[place]) == word {
+            return Some(place);
+        }
+    }
+    None
+}
+
+/// The kind of this name. Words with another name than `tm` or `tc` are refused.
+pub fn kind_named(name: &str) -> RecordingKind
+    ensures { result ≡ kind_named name.now }
+{
+    if name == "tm" {
+        RecordingKind::Tm
+    } else {
+        RecordingKind::Tc
     }
 }

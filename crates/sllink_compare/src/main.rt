@@ -82,9 +82,9 @@ fn run_files(rt: &HostRuntime, asked: &Asked<'_>, names: &Names<'_>, one: File, 
             &mut Counted::new(one),
             &mut Counted::new(other),
             &mut Counted::new(rt.stdout()),
-            &mut rt.stderr(),
+            &mut Counted::new(rt.stderr()),
         ),
-        Err(_) => report_fault(LinkFault::Read, &mut rt.stderr()),
+        Err(_) => report_fault(LinkFault::Read, &mut Counted::new(rt.stderr())),
     }
 }
 
@@ -97,7 +97,7 @@ fn report_refusal(rt: &HostRuntime, refusal: &Refusal) -> u8 {
     match error.kind() {
         WordsKind::DisplayHelp => answer(write!(rt.stdout(), "{error}"), rt),
         WordsKind::DisplayVersion => answer(rt.stdout().write_all(VERSION_LINE.as_bytes()), rt),
-        WordsKind::OutOfMemory => report_fault(LinkFault::Memory, &mut rt.stderr()),
+        WordsKind::OutOfMemory => report_fault(LinkFault::Memory, &mut Counted::new(rt.stderr())),
         _ => {
             let _ = write!(rt.stderr(), "{error}");
             REFUSED
@@ -109,7 +109,7 @@ fn report_refusal(rt: &HostRuntime, refusal: &Refusal) -> u8 {
 fn answer(written: io::Result<()>, rt: &HostRuntime) -> u8 {
     match written {
         Ok(()) => SAME,
-        Err(_) => report_fault(LinkFault::Write, &mut rt.stderr()),
+        Err(_) => report_fault(LinkFault::Write, &mut Counted::new(rt.stderr())),
     }
 }
 

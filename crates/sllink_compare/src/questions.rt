@@ -2,10 +2,10 @@
 ghost use Rattle.std.specs.Prelude.{◌≡◌, ◌<◌};
 ghost use Rattle.std.specs.List.{count_by};
 ghost use Rattle.sl_engine.specs.Compare.Words.{word_text};
-ghost use Rattle.sllink_compare.specs.Questions.{differs, doubt_of, has_other_lines, is_most};
-ghost use Rattle.sllink_compare.specs.Questions.{is_mostly_skipped, is_other, is_over_a_tenth};
-ghost use Rattle.sllink_compare.specs.Questions.{lines_question, most_question, nothing_question};
-ghost use Rattle.sllink_compare.specs.Questions.{numbers_of, options_question, question_of};
+ghost use Rattle.sllink_compare.specs.Questions.{differs, doubt_of, has_other_lines, is_asked};
+ghost use Rattle.sllink_compare.specs.Questions.{is_most, is_mostly_skipped, is_other};
+ghost use Rattle.sllink_compare.specs.Questions.{is_over_a_tenth, lines_question, most_question};
+ghost use Rattle.sllink_compare.specs.Questions.{nothing_question, options_question, question_of};
 ghost use Rattle.sllink_compare.specs.Questions.{shows_field, station_where, with_predecessor};
 
 use sl_link::{CheckWord, Summary, WordCounts};
@@ -60,7 +60,7 @@ pub struct Allowed {
     pub options: bool,
     /// A recording may deliver no packet.
     pub nothing: bool,
-    /// More than half of the frames may be skipped.
+    /// More than half of the frames of a recording that delivers packets may be skipped.
     pub most: bool,
 }
 
@@ -82,8 +82,8 @@ pub enum Question {
     Nothing(Station),
     /// More than half of the frames of a recording are skipped, and it delivers packets.
     Most(Station),
-    /// No packet differs, and `check` has lines whose words aren't allowed.
-    Lines,
+    /// No packet differs, and `check` has lines of a recording whose words aren't allowed.
+    Lines(Station),
 }
 
 /// What frames show against options.
@@ -247,12 +247,11 @@ fn lines_question(
     if differs(answer) {
         return None;
     }
-    let first = numbers_of(&first.summary.words);
-    let second = numbers_of(&second.summary.words);
-    if has_other_lines(&allowed.lines, &first, &second) {
-        Some(Question::Lines)
-    } else {
-        None
+    let is_first = has_other_lines(&allowed.lines, &first.summary.words);
+    let is_second = has_other_lines(&allowed.lines, &second.summary.words);
+    match station_where(is_first, is_second) {
+        Some(station) => Some(Question::Lines(station)),
+        None => None,
     }
 }
 
@@ -267,43 +266,29 @@ fn differs(answer: Answer) -> bool
 }
 
 // Whether a word that isn't allowed has lines.
-fn has_other_lines(allowed: &[bool; 14], first: &[u64; 14], second: &[u64; 14]) -> bool
-    ensures { result ≡ has_other_lines allowed.now first.now second.now }
+fn has_other_lines(allowed: &[bool; 14], words: &WordCounts) -> bool
+    ensures { result ≡ has_other_lines allowed.now words.now }
 {
     for place in 0..14 {
-        if is_other(allowed, first, second, place) {
+        if is_other(allowed, words, place) {
             return true;
         }
     }
     false
 }
 
-/// Whether the word at this place has lines, and isn't allowed.
-pub fn is_other(allowed: &[bool; 14], first: &[u64; 14], second: &[u64; 14], place: usize) -> bool
+// Whether the word at this place of [`WORDS`] has lines, and isn't allowed.
+fn is_other(allowed: &[bool; 14], words: &WordCounts, place: usize) -> bool
     requires { place < 14 }
-    ensures { result ≡ is_other allowed.now first.now second.now place }
+    ensures { result ≡ is_other allowed.now words.now place }
 {
-    (first[place] > 0 || second[place] > 0) && !allowed[place]
+    words.of(WORDS[place]) > 0 && !allowed[place]
 }
 
-/// How many lines of each word of [`WORDS`] there are.
-pub fn numbers_of(words: &WordCounts) -> [u64; 14]
-    ensures { result ≡ numbers_of words.now }
+/// Whether the word at this place of [`WORDS`] has lines on either recording, and isn't allowed.
+pub fn is_asked(allowed: &[bool; 14], first: &WordCounts, second: &WordCounts, place: usize) -> bool
+    requires { place < 14 }
+    ensures { result ≡ is_asked allowed.now first.now second.now place }
 {
-    [
-        words.skip,
-        words.gap,
-        words.dropped,
-        words.opaque,
-        words.foreign,
-        words.rest,
-        words.incomplete,
-        words.early,
-        words.late,
-        words.outside,
-        words.refused,
-        words.stray,
-        words.long,
-        words.tail,
-    ]
+    is_other(allowed, first, place) || is_other(allowed, second, place)
 }

@@ -1,16 +1,17 @@
 //! A run over two readers and a writer.
-ghost use Rattle.std.specs.Prelude.{◌≡◌, ◌≢◌, ◌++◌, ⊤, string_bytes, None, IfOk, IfErr, OnOk};
+ghost use Rattle.std.specs.Prelude.{◌≡◌, ◌≢◌, ◌⊎◌, ◌++◌, ⊤, string_bytes, None, IfOk, IfErr, OnOk};
 ghost use Rattle.sl_io.specs.Streams.{StopsWriting, WritesText};
 ghost use Rattle.sl_io.specs.declared.fault.LinkFault.{LinkFault};
 ghost use Rattle.sl_engine.specs.Compare.{Compares};
 ghost use Rattle.sl_pair.specs.Pairing.{ByChannel, StandsAfter};
-ghost use Rattle.sllink_compare.specs.Run.{HasEnded, HasStopped, StopsComparing, answer_text};
-ghost use Rattle.sllink_compare.specs.Run.{difference_head, differences, has_field};
-ghost use Rattle.sllink_compare.specs.Run.{open_question, output_text, packets_of, status_of};
-ghost use Rattle.sllink_compare.specs.Run.{summary_of};
+ghost use Rattle.sllink_compare.specs.Asking.{question_text};
+ghost use Rattle.sllink_compare.specs.Run.{Asks, HasEnded, HasStopped, Says, StopsComparing};
+ghost use Rattle.sllink_compare.specs.Run.{answer_text, difference_head, differences};
+ghost use Rattle.sllink_compare.specs.Run.{fault_text, has_field, open_question, output_text};
+ghost use Rattle.sllink_compare.specs.Run.{packets_of, status_of, summary_of};
 ghost use Rattle.sllink_compare.specs.Totals.{totals_text};
 
-use crate::asking::report_question;
+use crate::asking::question_text;
 use crate::questions::{Allowed, Question, Seen, question_of};
 use crate::totals::{Names, totals_text};
 use sl_io::{flush, write_text};
@@ -52,8 +53,8 @@ pub struct Comparison {
 /// Reads two recordings to their ends, and writes the totals of both and which packets only one of
 /// them has, or asks a question. The exit status is 0 where both have the same packets in the same
 /// order, 1 where they have them in another order or packets differ, 2 where a question is open,
-/// and 3 after a fault. `errors` gets the question or the fault, in one line. Where it fails the
-/// line is cut short, and the status is the same.
+/// and 3 after a fault. `errors` gets the question or the fault, in one line, and else nothing.
+/// Where it fails the line is cut short, and the status is the same.
 pub fn run<A: Read, B: Read, S: BuildHasher + Copy, W: Write, E: Write>(
     alloc: Global,
     hasher: S,
@@ -62,12 +63,14 @@ pub fn run<A: Read, B: Read, S: BuildHasher + Copy, W: Write, E: Write>(
     one: &mut Counted<A>,
     other: &mut Counted<B>,
     writer: &mut Counted<W>,
-    errors: &mut E,
+    errors: &mut Counted<E>,
 ) -> u8
-    ensures ended { result ≢ 3 → HasEnded A.remaining B.remaining W.contents one.old one.new
-        other.old other.new writer.old writer.new comparison.now names.now result }
-    ensures stopped { result ≡ 3 → HasStopped A.remaining B.remaining W.contents one.old one.new
-        other.old other.new writer.old writer.new comparison.now names.now }
+    ensures ended { result ≢ 3 → HasEnded A.remaining B.remaining W.contents E.contents one.old
+        one.new other.old other.new writer.old writer.new errors.old errors.new comparison.now
+        names.now result }
+    ensures stopped { result ≡ 3 → HasStopped A.remaining B.remaining W.contents E.contents one.old
+        one.new other.old other.new writer.old writer.new errors.old errors.new comparison.now
+        names.now }
 {
     match compare(alloc, hasher, comparison, one, other) {
         Ok(compared) => answer(alloc, comparison, names, &compared, writer, errors),
@@ -107,7 +110,7 @@ fn answer<S: BuildHasher + Copy, W: Write, E: Write>(
     names: &Names<'_>,
     compared: &Compared<S>,
     writer: &mut Counted<W>,
-    errors: &mut E,
+    errors: &mut Counted<E>,
 ) -> u8
     ensures ended { result ≢ 3 → (firsts seconds : ByChannel)
         → StandsAfter compared.now.left firsts seconds
@@ -115,7 +118,11 @@ fn answer<S: BuildHasher + Copy, W: Write, E: Write>(
         compared.now.answer compared.now.first compared.now.second firsts seconds) }
     ensures status { result ≢ 3 → result ≡ status_of (open_question comparison.now
         compared.now.answer compared.now.first compared.now.second) compared.now.answer }
-    ensures stopped { result ≡ 3 → (fault : LinkFault) × ((firsts seconds : ByChannel)
+    ensures asked { result ≢ 3 → Asks E.contents errors.old errors.new comparison.now names.now
+        compared.now.first compared.now.second (open_question comparison.now
+        compared.now.answer compared.now.first compared.now.second) }
+    ensures stopped { result ≡ 3 → (fault : LinkFault)
+        × Says E.contents errors.old errors.new (fault_text fault) × ((firsts seconds : ByChannel)
         → StandsAfter compared.now.left firsts seconds
         → StopsWriting W.contents writer.old writer.new (output_text comparison.now names.now
         compared.now.answer compared.now.first compared.now.second firsts seconds) ⊤ fault) }
@@ -124,14 +131,44 @@ fn answer<S: BuildHasher + Copy, W: Write, E: Write>(
         return report_fault(fault, errors);
     }
     if let Some(question) = open_question(comparison, compared) {
-        let (first, second) = (&compared.first, &compared.second);
-        report_question(question, comparison, names, first, second, errors);
-        return REFUSED;
+        return ask(alloc, question, comparison, names, compared, errors);
     }
     match write_answer(alloc, comparison, names, compared, writer) {
         Ok(()) => status_of(compared.answer),
         Err(fault) => report_fault(fault, errors),
     }
+}
+
+// Asks a question on the error output, and returns the exit status.
+fn ask<S: BuildHasher + Copy, E: Write>(
+    alloc: Global,
+    question: Question,
+    comparison: &Comparison,
+    names: &Names<'_>,
+    compared: &Compared<S>,
+    errors: &mut Counted<E>,
+) -> u8
+    ensures status { (result ≡ 2) ⊎ (result ≡ 3) }
+    ensures said { result ≢ 3 → Says E.contents errors.old errors.new (question_text question
+        comparison.now names.now compared.now.first compared.now.second) }
+    ensures stopped { result ≡ 3 → Says E.contents errors.old errors.new
+        (fault_text LinkFault.Memory) }
+{
+    let (first, second) = (&compared.first, &compared.second);
+    match question_text(alloc, question, comparison, names, first, second) {
+        Ok(line) => {
+            say(line.as_str(), errors);
+            REFUSED
+        }
+        Err(_) => report_fault(LinkFault::Memory, errors),
+    }
+}
+
+// Writes a line on the error output. Where it fails the line is cut short.
+fn say<E: Write>(line: &str, errors: &mut Counted<E>)
+    ensures { Says E.contents errors.old errors.new line.now }
+{
+    let _ = write_text(errors, line.as_bytes());
 }
 
 // Writes the totals of two recordings, and flushes them.
@@ -293,9 +330,22 @@ fn status_of(answer: Answer) -> u8
 }
 
 /// Names a fault on the error output, and returns the exit status.
-pub fn report_fault<E: Write>(fault: LinkFault, errors: &mut E) -> u8
-    ensures { result ≡ 3 }
+pub fn report_fault<E: Write>(fault: LinkFault, errors: &mut Counted<E>) -> u8
+    ensures status { result ≡ 3 }
+    ensures said { Says E.contents errors.old errors.new (fault_text fault) }
 {
-    let _ = writeln!(errors, "sllink-compare: {fault}");
+    say(fault_text(fault), errors);
     FAULT
+}
+
+// The line of a fault.
+fn fault_text(fault: LinkFault) -> &'static str
+    ensures { result.now ≡ fault_text fault }
+{
+    match fault {
+        LinkFault::Read => "sllink-compare: read\n",
+        LinkFault::TooLong => "sllink-compare: too long\n",
+        LinkFault::Memory => "sllink-compare: memory\n",
+        LinkFault::Write => "sllink-compare: write\n",
+    }
 }

@@ -1,10 +1,9 @@
 //! The lines of the totals of two recordings.
 ghost use Rattle.std.specs.Prelude.{◌≡◌, ◌++◌, string_bytes, IfOk, OnOk};
-ghost use Rattle.sllink_compare.specs.Questions.{numbers_of};
-ghost use Rattle.sllink_compare.specs.Totals.{counts_text, listed, mark_before, totals_line};
-ghost use Rattle.sllink_compare.specs.Totals.{totals_text, word_number, words_found};
+ghost use Rattle.sllink_compare.specs.Totals.{counts_text, mark_before, totals_line, totals_text};
+ghost use Rattle.sllink_compare.specs.Totals.{word_number, words_text};
 
-use crate::questions::{WORDS, numbers_of, text_of};
+use crate::questions::{WORDS, text_of};
 use sl_link::{Summary, Totals, WordCounts};
 use std::alloc::{AllocError, Global};
 
@@ -61,25 +60,29 @@ fn push_counts(text: &mut String, totals: &Totals) -> Result<(), AllocError>
 // Appends how many lines of each word there are, of the words that have some.
 fn push_words(text: &mut String, words: &WordCounts) -> Result<(), AllocError>
     ensures { OnOk result (string_bytes text.new
-        ≡ string_bytes text.old ++ listed (words_found (numbers_of words.now) 14)) }
+        ≡ string_bytes text.old ++ words_text words.now) }
 {
-    let numbers = numbers_of(words);
     let mut is_first = true;
     for place in 0..14 {
-        let number = numbers[place];
+        let number = words.of(WORDS[place]);
         if number > 0 {
-            push_word(text, mark_before(is_first), text_of(WORDS[place]), number)?;
+            push_word(
+                text,
+                mark_before(is_first, ", "),
+                text_of(WORDS[place]),
+                number,
+            )?;
             is_first = false;
         }
     }
     Ok(())
 }
 
-// What stands before a word.
-fn mark_before(is_first: bool) -> &'static str
-    ensures { result.now ≡ mark_before is_first }
+/// What stands before a text, which may be the first one: a colon, or else this.
+pub fn mark_before(is_first: bool, between: &'static str) -> &'static str
+    ensures { result.now ≡ mark_before between.now is_first }
 {
-    if is_first { ": " } else { ", " }
+    if is_first { ": " } else { between }
 }
 
 // Appends a mark, a word and how many lines it has.

@@ -4,4 +4,4 @@ use Rattle.sllink_compare.specs.Questions.{is_other}
 use Rattle.sllink_compare.proofs.questions.has_other_lines.Given as goal
 
 abbrev pub invariant-loop-place : goal.invariant-loop-place
-invariant-loop-place l = list_any (is_other l.allowed l.first l.second) (range_with_len 0 l.place) ≡ false
+invariant-loop-place l = list_any (is_other l.allowed l.words) (range_with_len 0 l.place) ≡ false

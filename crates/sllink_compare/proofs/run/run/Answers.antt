@@ -3,7 +3,7 @@ use Rattle.sllink_compare.proofs.run.run.Goals as goal
 
 pub returns-in-Ok-clause-ended : goal.returns-in-Ok-clause-ended
 returns-in-Ok-clause-ended g c =
-    λ no_fault. ended c.args.comparison.now c.args.names.now c.in-Ok.compared c.in-Ok.ensures.compared (c.answer.ensures.ended no_fault) (c.answer.ensures.status no_fault)
+    λ no_fault. ended c.args.comparison.now c.args.names.now c.in-Ok.compared c.in-Ok.ensures.compared (c.answer.ensures.ended no_fault) (c.answer.ensures.status no_fault) (c.answer.ensures.asked no_fault)
 
 pub returns-in-Ok-clause-stopped : goal.returns-in-Ok-clause-stopped
 returns-in-Ok-clause-stopped g c =

@@ -52,6 +52,8 @@ PROGRAMS = sllink_compare sllink_frames sllink_merge
 built = $(or $($(shell echo $(1) | tr a-z A-Z)),crates/$(1)/out/$(1))
 BESIDE = $(foreach it,$(PROGRAMS),"$(call built,$(it))")
 BUILD = for it in sllink $(PROGRAMS); do (cd crates/$$it && $(RT) run -- --version) || exit 1; done
+# How many checks run at a time: one a processor, with 4 GB each. rt by itself plans for more memory than they take.
+LANES = $(shell awk -v n=$$(nproc) '/MemAvailable/ {it = int($$2 / 4e6); print it < 1 ? 1 : it < n ? it : n}' /proc/meminfo)
 LEFT = for it in sllink $(PROGRAMS); do \
   [ crates/$$it/out/$$it -nt out/gate ] || (cd crates/$$it && $(RT) run -- --version) || exit 1; done
 RT = rt
@@ -233,4 +235,4 @@ contracts:
 # out/, also one that it refuses, which that line counts; one that is older than its beginning is proved and built here.
 check:
 	@mkdir -p out && touch out/gate
-	@unset MAKEFLAGS MFLAGS MAKELEVEL; python3 -B tests/lib/counts.py '$(RT) ci' '($(LEFT)) && tests/all'
+	@unset MAKEFLAGS MFLAGS MAKELEVEL; RT_JOBS=$${RT_JOBS:-$(LANES)} python3 -B tests/lib/counts.py '$(RT) ci' '($(LEFT)) && tests/all'

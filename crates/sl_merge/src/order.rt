@@ -108,26 +108,49 @@ pub fn find_order<S: BuildHasher + Copy>(
         one: Recording::new(shape, one),
         other: Recording::new(shape, other),
     };
-    let mut frames = Frames {
-        firsts: seen_frames(alloc, shape, spacecraft, &both.one)?,
-        seconds: seen_frames(alloc, shape, spacecraft, &both.other)?,
-    };
+    let mut frames = frames_of(alloc, shape, spacecraft, &both)?;
     set_anchors(alloc, hasher, &both, &mut frames)?;
-    for (care, parts) in ATTEMPTS {
-        frames.put_back();
-        set_positions(alloc, &mut frames, parts)?;
-        let mut choices = Choices::none();
-        let lanes = order_lanes(alloc, &both, &mut frames, care, &mut choices)?;
-        if let Some(fates) = weave(alloc, &frames, &lanes)? {
-            let copies = count_copies(&both, fates.as_slice());
-            return Ok(Order {
-                fates,
-                open: choices.orders.saturating_add(copies),
-                undecided: choices.frames,
-                outages: choices.outages,
-                idle: choices.idle,
-            });
+    for attempt in ATTEMPTS {
+        if let Some(order) = order_with(alloc, &both, &mut frames, attempt)? {
+            return Ok(order);
         }
     }
     Err(Unordered::Disorder)
+}
+
+// What is seen of the frames of both recordings.
+fn frames_of(
+    alloc: Global,
+    shape: &TmShape,
+    spacecraft: u16,
+    both: &Both<'_>,
+) -> Result<Frames, AllocError> {
+    Ok(Frames {
+        firsts: seen_frames(alloc, shape, spacecraft, &both.one)?,
+        seconds: seen_frames(alloc, shape, spacecraft, &both.other)?,
+    })
+}
+
+// One attempt: the order that is found with this care, if one is.
+fn order_with(
+    alloc: Global,
+    both: &Both<'_>,
+    frames: &mut Frames,
+    (care, parts): (Care, bool),
+) -> Result<Option<Order>, AllocError> {
+    frames.put_back();
+    set_positions(alloc, frames, parts)?;
+    let mut choices = Choices::none();
+    let lanes = order_lanes(alloc, both, frames, care, &mut choices)?;
+    let Some(fates) = weave(alloc, frames, &lanes)? else {
+        return Ok(None);
+    };
+    let copies = count_copies(both, fates.as_slice());
+    Ok(Some(Order {
+        fates,
+        open: choices.orders.saturating_add(copies),
+        undecided: choices.frames,
+        outages: choices.outages,
+        idle: choices.idle,
+    }))
 }

@@ -79,17 +79,42 @@ pub(crate) fn order_lanes(
 ) -> Result<Vec<Vec<Fate>>, AllocError> {
     let mut lanes = Vec::new(alloc);
     for vc in 0..CHANNELS {
-        let firsts = marks_on(alloc, &frames.firsts, vc)?;
-        let seconds = marks_on(alloc, &frames.seconds, vc)?;
-        let mut channel = Channel::new(&firsts, &seconds);
-        let mut order = order_channel(alloc, both, &mut channel, care, choices)?;
-        if !both.one.fecf() {
-            let left = leave_misplaced(alloc, &firsts, &seconds, order.as_mut_slice())?;
-            choices.frames = choices.frames.saturating_add(left);
-        }
-        lanes.push(lane_of(alloc, frames, (&firsts, &seconds), order.as_slice())?)?;
+        lanes.push(order_lane(alloc, both, frames, vc, care, choices)?)?;
     }
     Ok(lanes)
+}
+
+// The lane of a channel.
+fn order_lane(
+    alloc: Global,
+    both: &Both<'_>,
+    frames: &mut Frames,
+    vc: u8,
+    care: Care,
+    choices: &mut Choices,
+) -> Result<Vec<Fate>, AllocError> {
+    let firsts = marks_on(alloc, &frames.firsts, vc)?;
+    let seconds = marks_on(alloc, &frames.seconds, vc)?;
+    let order = order_marks(alloc, both, (&firsts, &seconds), care, choices)?;
+    lane_of(alloc, frames, (&firsts, &seconds), order.as_slice())
+}
+
+// The fates of the frames of a channel, with those left out that are amid a run of the other
+// recording.
+fn order_marks(
+    alloc: Global,
+    both: &Both<'_>,
+    (firsts, seconds): (&[Mark], &[Mark]),
+    care: Care,
+    choices: &mut Choices,
+) -> Result<Vec<Fate>, AllocError> {
+    let mut channel = Channel::new(firsts, seconds);
+    let mut order = order_channel(alloc, both, &mut channel, care, choices)?;
+    if !both.one.fecf() {
+        let left = leave_misplaced(alloc, firsts, seconds, order.as_mut_slice())?;
+        choices.frames = choices.frames.saturating_add(left);
+    }
+    Ok(order)
 }
 
 // The fates of the frames of a channel.
@@ -109,16 +134,28 @@ fn order_channel(
                 break;
             }
         } else {
-            order.clear();
-            let known = order_stretch(alloc, both, &stretch, &mut order)?;
             let is_between = channel.is_between(&stretch);
-            let choice = choose(both, &stretch, (known, care), is_between, &mut order)?;
-            choices.count(as_idle(both, &stretch, choice));
+            let choice = order_mixed(alloc, both, &stretch, (care, is_between), &mut order)?;
+            choices.count(choice);
             channel.pass(&stretch, order.as_slice());
             fates.extend_from_slice(order.as_slice())?;
         }
     }
     Ok(fates)
+}
+
+// Puts the frames of a stretch in order, into `order`, and answers what was chosen.
+fn order_mixed(
+    alloc: Global,
+    both: &Both<'_>,
+    stretch: &Stretch<'_>,
+    (care, is_between): (Care, bool),
+    order: &mut Vec<Fate>,
+) -> Result<Choice, AllocError> {
+    order.clear();
+    let known = order_stretch(alloc, both, stretch, order)?;
+    let choice = choose(both, stretch, (known, care), is_between, order)?;
+    Ok(as_idle(both, stretch, choice))
 }
 
 // What was chosen; among idle frames alone no choice matters.

@@ -54,25 +54,33 @@ pub(crate) fn order_stretch(
     stretch: &Stretch<'_>,
     fates: &mut Vec<Fate>,
 ) -> Result<Known, AllocError> {
-    let Some(width) = common_width(stretch) else {
-        return order_around_outage(alloc, both, stretch, fates);
-    };
-    if stretch.has_no_end() && !is_near(stretch) {
-        return order_around_outage(alloc, both, stretch, fates);
+    if let Some(width) = known_width(stretch) {
+        if order_by_outages(both, stretch, (NO_OUTAGE, NO_OUTAGE), fates)? {
+            return Ok(known_by_counts(both, stretch, width, fates));
+        }
     }
-    let first = number_firsts(stretch, NO_OUTAGE);
-    let second = number_seconds(stretch, NO_OUTAGE);
-    if !order_by_number(both, first, second, fates)? {
-        return order_around_outage(alloc, both, stretch, fates);
-    }
-    if stretch.has_open_end() && !agrees_with_positions(stretch, fates.as_slice()) {
-        return Ok(Known::Open);
+    order_around_outage(alloc, both, stretch, fates)
+}
+
+// What is known of an order that the counts tell where the ends are so far apart.
+fn known_by_counts(both: &Both<'_>, stretch: &Stretch<'_>, width: i64, fates: &[Fate]) -> Known {
+    if stretch.has_open_end() && !agrees_with_positions(stretch, fates) {
+        return Known::Open;
     }
     let is_blind = width > 256 || stretch.has_open_end();
     if is_blind && have_common_idle(both, stretch, fates) {
-        return Ok(Known::Idle);
+        return Known::Idle;
     }
-    Ok(Known::Sure)
+    Known::Sure
+}
+
+// How far the ends are apart, unless the counts don't tell how the recordings stand to each other:
+// they say different distances, or there is no frame around the frames, and these are far apart.
+fn known_width(stretch: &Stretch<'_>) -> Option<i64> {
+    if stretch.has_no_end() && !is_near(stretch) {
+        return None;
+    }
+    common_width(stretch)
 }
 
 // How far the ends are apart, where the counts of both recordings say the same; 0 where there is no
@@ -149,6 +157,19 @@ fn span(marks: &[Mark]) -> i64 {
     }
 }
 
+// Finds the order that the counts tell where these outages were, into `fates`. Answers whether the
+// frames allow it.
+fn order_by_outages(
+    both: &Both<'_>,
+    stretch: &Stretch<'_>,
+    (first, second): (Outage, Outage),
+    fates: &mut Vec<Fate>,
+) -> Result<bool, AllocError> {
+    let firsts = number_firsts(stretch, first);
+    let seconds = number_seconds(stretch, second);
+    order_by_number(both, firsts, seconds, fates)
+}
+
 // Finds the likeliest order where one recording lost 256 frames in a row or more, or both did.
 fn order_around_outage(
     alloc: Global,
@@ -162,9 +183,7 @@ fn order_around_outage(
         if is_clear(best, way) {
             return Ok(Known::Outage);
         }
-        let first = number_firsts(stretch, way.first);
-        let second = number_seconds(stretch, way.second);
-        if order_by_number(both, first, second, &mut trial)? {
+        if order_by_outages(both, stretch, (way.first, way.second), &mut trial)? {
             if best.is_none() {
                 best = Some(*way);
                 mem::swap(fates, &mut trial);

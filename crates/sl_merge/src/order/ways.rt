@@ -39,51 +39,49 @@ pub(crate) fn ways(
     }
     let first_gaps = widest_gaps(alloc, firsts, ends)?;
     let second_gaps = widest_gaps(alloc, seconds, ends)?;
+    let gaps = (first_gaps.as_slice(), second_gaps.as_slice());
     let mut ways = Vec::new(alloc);
     match (ends.left, ends.right) {
         (Some(left), Some(right)) => {
-            let one = width(firsts, left, right);
-            let other = width(seconds, left, right);
-            let far = far_from(one.max(other), firsts, seconds);
-            if one < other {
-                let lost = other.wrapping_sub(one);
-                push_first(&mut ways, first_gaps.as_slice(), lost)?;
-            }
-            if other < one {
-                let lost = one.wrapping_sub(other);
-                push_second(&mut ways, second_gaps.as_slice(), lost)?;
-            }
-            let lost = (far.wrapping_sub(one), far.wrapping_sub(other));
-            push_both(
-                &mut ways,
-                first_gaps.as_slice(),
-                second_gaps.as_slice(),
-                lost,
-            )?;
+            let widths = (width(firsts, left, right), width(seconds, left, right));
+            let far = far_from(widths.0.max(widths.1), firsts, seconds);
+            push_between(&mut ways, gaps, widths, far)?;
         }
-        _ => {
-            let far = far_from(0, firsts, seconds);
-            let farther = far.wrapping_add(far);
-            push_first(&mut ways, first_gaps.as_slice(), far)?;
-            push_second(&mut ways, second_gaps.as_slice(), far)?;
-            let lost = (far, farther);
-            push_both(
-                &mut ways,
-                first_gaps.as_slice(),
-                second_gaps.as_slice(),
-                lost,
-            )?;
-            let lost = (farther, far);
-            push_both(
-                &mut ways,
-                first_gaps.as_slice(),
-                second_gaps.as_slice(),
-                lost,
-            )?;
-        }
+        _ => push_at_end(&mut ways, gaps, far_from(0, firsts, seconds))?,
     }
     ways.sort_by_key(|way| u64::MAX - way.weight)?;
     Ok(ways)
+}
+
+// Ways between two frames, which are so far apart by the counts of the first recording and of the
+// second one.
+fn push_between(
+    ways: &mut Vec<Way>,
+    (firsts, seconds): (&[Gap], &[Gap]),
+    (one, other): (i64, i64),
+    far: i64,
+) -> Result<(), AllocError> {
+    if one < other {
+        push_first(ways, firsts, other.wrapping_sub(one))?;
+    }
+    if other < one {
+        push_second(ways, seconds, one.wrapping_sub(other))?;
+    }
+    let lost = (far.wrapping_sub(one), far.wrapping_sub(other));
+    push_both(ways, firsts, seconds, lost)
+}
+
+// Ways where there is no frame on one side.
+fn push_at_end(
+    ways: &mut Vec<Way>,
+    (firsts, seconds): (&[Gap], &[Gap]),
+    far: i64,
+) -> Result<(), AllocError> {
+    let farther = far.wrapping_add(far);
+    push_first(ways, firsts, far)?;
+    push_second(ways, seconds, far)?;
+    push_both(ways, firsts, seconds, (far, farther))?;
+    push_both(ways, firsts, seconds, (farther, far))
 }
 
 // The ways to number frames with nothing around them: the second recording begins so many times 256

@@ -1,5 +1,5 @@
 -- The frames that fates take, one fate after another.
-use Rattle.std.proofs.Common.{◌≡◌, ◌+◌, ◌<◌, ℕ, Bool, true, false, List, [], ◌∷◌, ◌++◌, map, length, take, drop, get_or, inl, inr, refl, sym, ◌∙◌, ap, ap₂, append_assoc, length-take-le}
+use Rattle.std.proofs.Common.{◌≡◌, ◌+◌, ◌<◌, ℕ, Bool, true, false, cond, List, [], ◌∷◌, ◌++◌, map, length, take, drop, get_or, inl, inr, refl, sym, ◌∙◌, ap, ap₂, append_assoc, length-take-le}
 use Rattle.std.specs.Prelude.{◌&&◌, nat_lt}
 use Rattle.std.specs.List.{IsSplitAt}
 use Rattle.std.proofs.lemmas.Bool.{cases_lt, le-ltb, lt-ltb}
@@ -8,7 +8,7 @@ use Rattle.sl_tmframe.specs.TmDelimited.{tm_frames_of}
 use Rattle.sl_tmframe.proofs.DelimitedLemmas.{frames_of-first, frames_of-short}
 use Rattle.sl_merge.specs.declared.fate.Fate.{Fate}
 use Rattle.sl_merge.specs.declared.item.Seen.{Seen}
-use Rattle.sl_merge.specs.Fates.{Fated, fated, fits, taken}
+use Rattle.sl_merge.specs.Fates.{Fated, fated, fits, octets_of, standing, stands, taken}
 use Rattle.sl_merge.specs.Told.{Finds, has_none}
 
 -- ---- one step of a loop over the fates
@@ -23,6 +23,20 @@ module _ (fates later : List Fate) (fate : Fate) (firsts seconds : List (List �
     seen_more see before =
         append_assoc before (see (fated fate frame) ∷ []) (map see (taken later firsts' seconds'))
         ∙ ap (λ l. before ++ map see l) (sym taken_more)
+
+    -- the octets of what stands, with the frame and without it
+    pub octets_more : stands fate ≡ true → (before : List ℕ)
+        → (before ++ frame) ++ octets_of (standing (taken later firsts' seconds')) ≡ before ++ octets_of (standing (taken fates firsts seconds))
+    octets_more stays before =
+        let rest = standing (taken later firsts' seconds') in
+        append_assoc before frame (octets_of rest)
+        ∙ ap (λ o. before ++ o) (sym (ap (λ items. octets_of (standing items)) taken_more ∙ ap (λ b. octets_of (cond b (fated fate frame ∷ rest) rest)) stays))
+
+    pub octets_stay : stands fate ≡ false → (before : List ℕ)
+        → before ++ octets_of (standing (taken later firsts' seconds')) ≡ before ++ octets_of (standing (taken fates firsts seconds))
+    octets_stay leaves before =
+        let rest = standing (taken later firsts' seconds') in
+        ap (λ o. before ++ o) (sym (ap (λ items. octets_of (standing items)) taken_more ∙ ap (λ b. octets_of (cond b (fated fate frame ∷ rest) rest)) leaves))
 
     pub fits_more : (b : Bool) → ((b && same) && fits later firsts' seconds') ≡ (b && fits fates firsts seconds)
     fits_more true = sym (ap (λ f. fits f firsts seconds) is ∙ found.fits later)

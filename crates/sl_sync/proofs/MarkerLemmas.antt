@@ -5,7 +5,7 @@ use Rattle.std.proofs.lemmas.List.{drop-append-le}
 use Rattle.std.proofs.lemmas.Nat.{ones_cat, xor_block, xor_lt}
 use Rattle.std.proofs.Math.Seq.{drop-nil}
 use Rattle.std.specs.Prelude.{bit_xor, count_ones, nat_le}
-use Rattle.sl_sync.specs.Marker.{Marker, front_of, wrong_bits, is_marked}
+use Rattle.sl_sync.specs.Marker.{Marker, first_four, wrong_bits, is_marked}
 
 -- a marker and octets from the i-th on, of which both have one
 pub wrong_bits-at : (marker octets : List ℕ) (i : ℕ) → i < length marker → i < length octets
@@ -56,8 +56,8 @@ xor_ones k a b c d h l = ap count_ones (xor_block k a b c d h l) ∙ ones_cat k 
 -- as many bits of the first four octets are wrong as of the whole marker, at most
 pub front-few : (marker octets : List ℕ) → 4 ≤ length marker → 4 ≤ length octets
     → ((k : ℕ) → get_or marker k 0 < 256) → ((k : ℕ) → get_or octets k 0 < 256)
-    → count_ones (bit_xor (front_of marker) (front_of octets)) ≤ wrong_bits marker octets
-unfolding front_of
+    → count_ones (bit_xor (first_four marker) (first_four octets)) ≤ wrong_bits marker octets
+unfolding first_four
 front-few (a ∷ b ∷ c ∷ d ∷ m) (e ∷ f ∷ g ∷ h ∷ o) long longer ours theirs =
     let high = xor_ones 8 a e b f (ours 1) (theirs 1) in
     let low = xor_ones 8 c g d h (ours 3) (theirs 3) in

@@ -34,6 +34,6 @@ pub record IsNextMarked (m : Marker) (octets : List ℕ) (from end place : ℕ) 
   pub here : place < end → is_marked m (drop place octets) ≡ true
 
 -- the first four octets as one number, the first of them highest
-unfoldable pub front_of : List ℕ → ℕ
-front_of octets =
+unfoldable pub first_four : List ℕ → ℕ
+first_four octets =
     (slice_index octets 0 * 256 + slice_index octets 1) * 65536 + (slice_index octets 2 * 256 + slice_index octets 3)

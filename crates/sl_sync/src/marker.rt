@@ -99,7 +99,7 @@ impl SyncMarker {
     }
 }
 
-ghost use Rattle.sl_sync.specs.Marker.{front_of, wrong_bits};
+ghost use Rattle.sl_sync.specs.Marker.{first_four, wrong_bits};
 
 // Whether the first four octets have no more wrong bits than the whole marker may have. Nearly all
 // places without a marker are told by that.
@@ -107,7 +107,7 @@ ghost use Rattle.sl_sync.specs.Marker.{front_of, wrong_bits};
 fn begins_right(marker: &[u8], errors: u32, octets: &[u8]) -> bool
     ensures { result ≡ false → errors < wrong_bits marker.now octets.now }
 {
-    match (front_of(marker), front_of(octets)) {
+    match (first_four(marker), first_four(octets)) {
         (Some(marker), Some(octets)) => (marker ^ octets).count_ones() <= errors,
         _ => first_right(marker, errors, octets),
     }
@@ -126,9 +126,9 @@ fn first_right(marker: &[u8], errors: u32, octets: &[u8]) -> bool
 
 // The first four octets as one number, where there are so many.
 #[inline(always)]
-#[tactic(auto, unfolding(crate::specs::Marker::front_of))]
-fn front_of(octets: &[u8]) -> Option<u32>
-    ensures { SomeIff result (4 ≤ length octets.now) (front_of octets.now) }
+#[tactic(auto, unfolding(crate::specs::Marker::first_four))]
+fn first_four(octets: &[u8]) -> Option<u32>
+    ensures { SomeIff result (4 ≤ length octets.now) (first_four octets.now) }
 {
     match octets {
         [a, b, c, d, ..] => {

@@ -211,9 +211,9 @@ has() {
   command -v "$1" > /dev/null || { skip "$script: $2: $1 isn't there"; false; }
 }
 
-# frame COUNT LETTER: a TM frame of 32 octets, with a packet of 26
+# frame COUNT LETTER [OCTET]: a TM frame of 32 octets, with a packet of 26, on virtual channel 0, or 1 where OCTET is 22
 frame() {
-  printf '\0\20\0%b\30\0\0\1\300\0\0\23' "\\0$1"
+  printf '\0%b\0%b\30\0\0\1\300\0\0\23' "\\0${3:-20}" "\\0$1"
   printf '%020d' 0 | tr 0 "$2"
 }
 

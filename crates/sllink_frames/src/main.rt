@@ -10,6 +10,7 @@ mod run;
 use clap::error::ErrorKind as WordsKind;
 use command_line::{Asked, Shape, parse};
 use run::{FAULT, REFUSED, SUCCESS, report_fault, run};
+use sl_files::shown;
 use sl_io::{Counted, LinkFault};
 use std::fs::File;
 use std::io::{ErrorKind, Write};
@@ -73,10 +74,18 @@ fn run_file(rt: &HostRuntime, shape: &Shape, name: &str) -> u8 {
                 &mut rt.stderr(),
             )
         }
-        Err(fault) => {
-            let _ = writeln!(rt.stderr(), "sllink-frames: {name}: {fault}");
+        Err(fault) => report_unopened(rt, name, &fault),
+    }
+}
+
+// Says why a file isn't read, and gives the exit status: 3 where memory was refused, else 2.
+fn report_unopened(rt: &HostRuntime, name: &str, fault: &io::Error) -> u8 {
+    match shown(rt.alloc(), name) {
+        Ok(shown) => {
+            let _ = writeln!(rt.stderr(), "sllink-frames: {shown}: {fault}");
             REFUSED
         }
+        Err(_) => report_fault(LinkFault::Memory, &mut rt.stderr()),
     }
 }
 

@@ -53,12 +53,16 @@ pub fn merged_recording(
 ///   other recording has frames is refused: the counts tell it from none only by these frames.
 /// - A frame that is left out is skipped, or it is the frame before it of its recording and channel
 ///   once more, octet for octet. Else it lies between two frames of both, and of this stretch no
-///   more frames of the recording are left out than frames of the other one alone stand there.
+///   more frames of the recording are left out than frames of the other one alone stand there, or
+///   at most eight where the count of the second frame of both follows that of the first.
 /// - No octets stand on a channel both as a frame of the first recording alone and as one of the
 ///   second alone, but where their payload comes twice in a recording, as that of idle frames.
 ///
-/// So one recording behind the other is no merge, nor is one of them alone. The only refusal is
-/// want of memory.
+/// So one recording behind the other is no merge where both have a frame, octet for octet, whose
+/// payload comes once in each; where all payloads come twice, as those of idle frames, it may be
+/// one. To leave out all of a recording is no merge, but where all its frames are skipped.
+///
+/// The only refusal is want of memory.
 pub fn is_merge_tm<S: BuildHasher + Copy>(
     alloc: Global,
     hasher: S,

@@ -7,7 +7,8 @@ use Rattle.sl_io.specs.Streams.{ReadsAll, StopsReading, StopsWriting, WritesText
 use Rattle.sl_engine.specs.Compare.{ReadsBeginning, by_channel}
 use Rattle.sl_engine.specs.Compare.Summarised.{tc_summary, tm_summary}
 use Rattle.sl_engine.specs.Compare.Text.{difference_text}
-use Rattle.sl_engine.specs.Framing.{chunk_size}
+use Rattle.sl_engine.specs.Engine.{MayRefuseEngineMemory, engine_frames}
+use Rattle.sl_engine.specs.Framing.{MayRefuseMemoryAtSome, chunk_size}
 use Rattle.sl_engine.specs.Kind.Tc.{tc_packets}
 use Rattle.sl_engine.specs.Kind.Tm.{tm_packets}
 use Rattle.sl_engine.specs.Link.Managed.{Parameters}
@@ -16,6 +17,7 @@ use Rattle.sl_engine.specs.Verbs.Packets.Tm.{tm_channel_name}
 use Rattle.sl_engine.specs.declared.compare.summary.Summary.{Summary}
 use Rattle.sl_engine.specs.declared.engine.RecordingKind.{RecordingKind}
 use Rattle.sl_engine.specs.declared.engine.RecordingKind.TheVariants.{Tm, Tc}
+use Rattle.sl_engine.specs.declared.engine.VerbName.TheVariants.{Normalise}
 use Rattle.sl_pair.specs.Pairing.{ByChannel, NothingIsLeft}
 use Rattle.sl_pair.specs.declared.pairing.Answer.{Answer}
 use Rattle.sl_pair.specs.declared.pairing.Answer.TheVariants.{Same, Reordered, Different}
@@ -137,6 +139,16 @@ module _ {A B : Type 0} (remaining : A → Option (List ℕ)) (others : B → Op
       ⊎ (ReadsBeginning remaining one one' asked.first.max_octets
       × StopsReading others other other' asked.second.max_octets chunk_size fault)
 
+  -- Memory may be refused only where a recording delivers a packet, or has a packet or a series incomplete before or
+  -- after a frame, as to a `normalise` of that recording.
+  abbrev pub MayLackMemory : Counted A → Counted A → Counted B → Counted B → Comparison → LinkFault → Type 0
+  MayLackMemory one one' other other' asked fault =
+      fault ≡ Memory
+      → MayRefuseMemoryAtSome remaining one one' (engine_frames asked.kind asked.first)
+      (MayRefuseEngineMemory Normalise asked.kind asked.first)
+      ⊎ MayRefuseMemoryAtSome others other other' (engine_frames asked.kind asked.second)
+      (MayRefuseEngineMemory Normalise asked.kind asked.second)
+
 -- what is written of two recordings that compare so
 abbrev pub output_of : Comparison → Names → List ℕ → List ℕ → Answer → List ℕ
 output_of asked names first second answer =
@@ -170,7 +182,8 @@ module _ {A B W E : Type 0} (remaining : A → Option (List ℕ)) (others : B �
       (errors errors' : Counted E) (asked : Comparison) (names : Names) : Type 0 where
     pub fault : LinkFault
     pub said : Says heard errors errors' (fault_text fault)
-    pub stopped : (StopsComparing remaining others one one' other other' asked fault × (writer' ≡ writer))
+    pub stopped : (StopsComparing remaining others one one' other other' asked fault
+        × MayLackMemory remaining others one one' other other' asked fault × (writer' ≡ writer))
         ⊎ ((compared : HasCompared remaining others one one' other other' asked)
         × StopsWriting contents writer writer'
         (output_of asked names compared.first compared.second compared.answer) ⊤ fault)

@@ -5,7 +5,7 @@ ghost use Rattle.sl_io.specs.declared.fault.LinkFault.{LinkFault};
 ghost use Rattle.sl_engine.specs.Compare.{Compares};
 ghost use Rattle.sl_pair.specs.Pairing.{ByChannel, StandsAfter};
 ghost use Rattle.sllink_compare.specs.Asking.{question_text};
-ghost use Rattle.sllink_compare.specs.Run.{Asks, HasEnded, HasStopped, Says, StopsComparing};
+ghost use Rattle.sllink_compare.specs.Run.{Asks, HasEnded, HasStopped, MayLackMemory, Says, StopsComparing};
 ghost use Rattle.sllink_compare.specs.Run.{answer_text, difference_head, differences};
 ghost use Rattle.sllink_compare.specs.Run.{fault_text, has_field, open_question, output_text};
 ghost use Rattle.sllink_compare.specs.Run.{packets_of, status_of, summary_of};
@@ -93,6 +93,8 @@ fn compare<A: Read, B: Read, S: BuildHasher + Copy>(
         (summary_of comparison.now.kind comparison.now.second)
         comparison.now.first.max_octets comparison.now.second.max_octets) }
     ensures stopped { IfErr result (StopsComparing A.remaining B.remaining one.old one.new
+        other.old other.new comparison.now) }
+    ensures memory { IfErr result (MayLackMemory A.remaining B.remaining one.old one.new
         other.old other.new comparison.now) }
 {
     let Comparison { first, second, .. } = comparison;

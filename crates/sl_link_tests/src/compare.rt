@@ -116,7 +116,7 @@ const TC_CASES: [Case; 4] = [
 const TM_TEXTS: [(&[&str], &[&str], &str); 3] = [
     (&THROUGH, &AROUND_IDLE, ""),
     // The packets of APID 1 and 2 stand for themselves; that of APID 3 was lost with a frame.
-    (&THROUGH, &WITH_GAP, "< vc 0 apid 3 counts 0 packets 1\n"),
+    (&THROUGH, &WITH_GAP, TM_LOST),
     (
         &[FIRST, TEN_FILLED],
         &COUNTED,
@@ -125,6 +125,8 @@ const TM_TEXTS: [(&[&str], &[&str], &str); 3] = [
          > vc 0 apid 2 counts 6 packets 1\n",
     ),
 ];
+
+const TM_LOST: &str = "< vc 0 apid 3 counts 0 packets 1\n";
 
 // Packets of APID 2 and 1, the latter with the counts 16383, 0, 0 and 2; the second of the two with
 // the count 0 is that of `TEN_FILLED`.
@@ -223,6 +225,30 @@ fn each_packet_that_is_left_is_written(rt: HostRuntime) -> Result<(), Stop> {
     let other = octets(alloc, &[WHOLE])?;
     let text = text_tc(alloc, &managed, true, "".as_bytes(), other.as_slice())?;
     holds(&rt, &TC_EACH, text.as_slice() == TC_EACH.as_bytes());
+    Ok(())
+}
+
+// Each write may be the one that fails. What was written is the beginning of the lines.
+#[test]
+fn each_write_of_what_is_left_may_fail(rt: HostRuntime) -> Result<(), Stop> {
+    let alloc = rt.alloc();
+    let managed = link(1000)?;
+    let (one, other) = (octets(alloc, &THROUGH)?, octets(alloc, &WITH_GAP)?);
+    let mut one = Counted::new(one.as_slice());
+    let mut other = Counted::new(other.as_slice());
+    let hasher: Hasher = BuildHasherDefault::new();
+    let compared = compare_tm(alloc, hasher, &managed, &mut one, &managed, &mut other)?;
+    for writes in 0..TM_LOST.len() {
+        let mut writer = Counted::new(FailsAfter {
+            inner: InPieces(Vec::new(alloc), 1),
+            allowed: writes as u64,
+        });
+        let fault = write_difference_tm(&compared, false, &mut writer).err();
+        let is_fault = (fault, writer.faults()) == (Some(LinkFault::Write), 1);
+        let taken = writer.into_inner().inner.0;
+        let is_front = Some(taken.as_slice()) == TM_LOST.as_bytes().get(..writes);
+        holds(&rt, &("write", writes), is_fault && is_front);
+    }
     Ok(())
 }
 

@@ -581,9 +581,8 @@ class StationFiles(InAFolder):
     def test_refusals(self):
         """Nothing is written."""
         output = self.folder / "out.tm"
-        for options, said in (({}, "^sllink-frames: .* --length"), ({"length": 0}, "^sllink-frames: --length: 1 to"),
-                              ({"cltu": True, "errors": 5}, "--errors: "), ({"cltu": True, "lead": 1}, "--lead")):
-            self.refused(2, said, sllink.station_frames, PASS, output, **options)
+        for options, said in ({}, ".* --length"), ({"length": 0}, "--length: 1 to"), ({"cltu": True, "lead": 1}, ".*--lead"):
+            self.refused(2, f"^sllink-frames: {said}", sllink.station_frames, PASS, output, **options)
         self.refused(127, "isn't sllink-frames, .*SLLINK_FRAMES says", sllink.station_frames, PASS, output,
                      program=sllink.find_program())
         self.assertFalse(output.exists())
@@ -614,10 +613,8 @@ class Merges(InAFolder):
     def test_refusals(self):
         """Nothing is written."""
         output = self.folder / "out.tm"
-        for recordings, options, said in (((FIRST, SECOND), STATION, "^sllink-merge: .*: no frame in common$"),
-                                          ([FIRST], STATION, "^sllink-merge: .*required arguments"),
-                                          ((FIRST, THIRD), ["--scid", "1024"], "^sllink-merge: managed: ")):
-            self.refused(2, said, sllink.merge, "tm", recordings, output, options)
+        for recordings, said in ((FIRST, SECOND), "no frame in common$"), ([FIRST], "required arguments"):
+            self.refused(2, f"^sllink-merge: .*{said}", sllink.merge, "tm", recordings, output, STATION)
         self.refused(127, "isn't sllink-merge, .*SLLINK_MERGE says", sllink.merge, "tm", (FIRST, THIRD), output, STATION,
                      program=sllink.find_program())
         self.assertFalse(output.exists())

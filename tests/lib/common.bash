@@ -126,12 +126,6 @@ os.close(reader)
 sys.exit(subprocess.run(sys.argv[1:], stdout=writer, check=False).returncode)' "$@"
 }
 
-# is_left COMMAND..: whoever reads its output goes away after a line
-is_left() {
-  run bash -c '"$@" | head -n 1; exit "${PIPESTATUS[0]}"' - "$@"
-  expect "$*: the reader goes away after a line" "2 1 " "$status $(wc -l < "$log/output") $(cat "$log/errors")"
-}
-
 # program_of NAME LINE..: a program that answers to --version as sllink does, and else runs these lines of a shell
 program_of() {
   printf '%s\n' '#!/bin/sh' '[ "$1" != --version ] || { echo "sllink 1.0.0"; exit; }' "${@:2}" > "$1"
@@ -147,11 +141,7 @@ refuses_options() {
   [ "$1" != python3 ] || called=${*:1:3}
   declines "$called: sllink: *--scid*" "$@" < /dev/null
   declines "$called: sllink: *--scid*" "$@" --scid 1 --scid 1 < /dev/null
-  declines "$called: sllink: *--tm-lenght*" "$@" --scid 1 --tm-lenght 32 < /dev/null
-  declines "$called: sllink: *; --scid takes a decimal number from 0 to 1023" "$@" --scid=70000 < /dev/null
   declines "$called: *sllink: too long; *--limit" "$@" --scid 1 --limit 100 < /dev/null
-  SLLINK=$room/none declines "$called: $room/none: *" "$@" --scid 1 < /dev/null
-  SLLINK=$room declines "$called: $room: *" "$@" --scid 1 < /dev/null
   SLLINK=$(type -P yes) refuses "$called: */yes: isn't sllink, *" "$@" "${tm[@]}" < /dev/null
   program_of other 'exit 1'
   SLLINK=./other refuses "$called: *sllink: *" "$@" "${tm[@]}" < /dev/null

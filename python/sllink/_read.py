@@ -143,8 +143,8 @@ def _write(octets: bytes, file: BinaryIO) -> None:
 def same_packets(kind: str, a: Recording, b: Recording, options: Words, b_options: Optional[Words] = None, *,
                  program: Program = None) -> bool:
     """Whether two recordings deliver the same packets on each virtual channel, and MAP, in the same order, idle ones
-    left out. Options aren't held against the recordings: one that is read with wrong options may deliver nothing, or
-    something else. So look at its anomalies first, or ask sllink-compare.
+    left out. Whether the options fit the recordings isn't looked at: one that is read with wrong options may deliver
+    nothing, or something else. So look at its anomalies first, or ask sllink-compare.
 
     Read with the same options, the normal forms are compared, octet by octet. Where the second one has options of its
     own, sllink-compare has the answer, or of a library its lines of packets, since a normal form depends on the options
@@ -171,8 +171,8 @@ def _by_channel(listing: bytes) -> List[bytes]:
 def difference(kind: str, a: Recording, b: Recording, options: Words, b_options: Optional[Words] = None, *,
                program: Path = None) -> Generator[Run, None, None]:
     """The packets that only one of two recordings has, in runs of the packet sequence count, as sllink-compare lists
-    them; nothing where both have the same packets, in whatever order. Options aren't held against the recordings. The
-    program is the one that is named, else $SLLINK_COMPARE, else the one beside sllink.
+    them; nothing where both have the same packets, in whatever order. Whether the options fit the recordings isn't
+    looked at. The program is the one that is named, else $SLLINK_COMPARE, else the one beside sllink.
 
     Both are read before the first run comes. A recording that is no file goes through a temporary one.
     """

@@ -54,8 +54,9 @@ abbrev pub engine_frames : RecordingKind → Parameters → List ℕ → List (L
 engine_frames Tm = tm_frames
 engine_frames Tc = tc_frames
 
--- Memory may be refused to the engine at the last of these frames: to `show` never, to `check` and `packets` for what
--- is incomplete, to `normalise` for stored packets too.
+-- Memory may be refused to the engine at the last of these frames: to `show` never, to `packets` for what is
+-- incomplete, to `normalise` for stored packets too. For `check` this has as much as for `packets`, though memory is
+-- never refused to it: so its own clause `no_memory` says.
 abbrev pub MayRefuseEngineMemory : VerbName → RecordingKind → Parameters → List (List ℕ) → Type 0
 MayRefuseEngineMemory Show kind managed frames = ⊥
 MayRefuseEngineMemory Check Tm managed frames = IsIncompleteAtLastTm managed frames

@@ -2,8 +2,8 @@
 -- so the definitions that the engines' contracts rest on name the models, the records `TmFinding` and `TcFinding`.
 use Rattle.sl_engine.specs.Kind.Tc.{TcFinding}
 use Rattle.sl_engine.specs.Kind.Tm.{TmFinding}
-use Rattle.sl_engine.specs.declared.kind.TcFound.TheInside as tc
-use Rattle.sl_engine.specs.declared.kind.TmFound.TheInside as tm
+use Rattle.sl_engine.specs.declared.kind.tc.TcFound.TheInside as tc
+use Rattle.sl_engine.specs.declared.kind.tm.TmFound.TheInside as tm
 
 abbrev pub tm_finding : tm.Inside → TmFinding
 tm_finding f =

@@ -9,9 +9,10 @@ use Rattle.sl_tcframe.specs.TcFrame.{TcView, Content, Ad, Bd, Unlock, SetVr, tc_
 use Rattle.sl_tcflow.specs.AcceptedUnit.{views_of}
 use Rattle.sl_tcflow.specs.Anomaly.{dropped_by, long_by, stray_by, tail_by}
 use Rattle.sl_tcflow.specs.Farms.{verdict_on}
-use Rattle.sl_tcflow.specs.Receiver.{HasProcessed, IsIncompleteAround, ReceiverState, ended_by, incomplete_octets_on, unit_channel, unit_map}
+use Rattle.sl_tcflow.specs.Receiver.{IsIncompleteAround, ended_by, incomplete_octets_on, unit_channel, unit_map}
 use Rattle.sl_tcflow.specs.ReceptionParameters.{ReceptionParameters}
 use Rattle.sl_tcflow.specs.Recording.{map_channels, packets_of_channel, tc_lists}
+use Rattle.sl_tcflow.specs.StepReport.{StepReport}
 use Rattle.sl_engine.specs.Kind.Delivery.{IsWithin, Kind, MayRefuseStoreMemory, count_of, counts_in, number_of_idle, number_of_packets}
 use Rattle.sl_engine.specs.Link.Managed.{Parameters, reception_of, tc_format}
 use Rattle.sl_engine.specs.Link.Totals.{Counts}
@@ -99,7 +100,7 @@ abbrev pub tc_counts : Parameters → List ℕ → Counts
 tc_counts p = recording_counts (tc_counts_in p) (tc_frames_of (tc_format p))
 
 -- a series is incomplete before or after the last of these frames, on the MAP of its unit, which is accepted: there
--- `check` and `packets` may be refused memory
+-- `packets` may be refused memory
 pub record IsIncompleteAtLastTc (p : Parameters) (frames : List (List ℕ)) : Type 0 where
   pub before : List (List ℕ)
   pub frame : List ℕ
@@ -112,18 +113,33 @@ pub record IsIncompleteAtLastTc (p : Parameters) (frames : List (List ℕ)) : Ty
 abbrev pub MayRefuseStoreMemoryTc : Parameters → List (List ℕ) → Type 0
 MayRefuseStoreMemoryTc p = MayRefuseStoreMemory (tc_kind p) (IsIncompleteAtLastTc p)
 
--- ---- a receiver. Contracts of private functions alone cite this.
+-- ---- a receiver or a counter. Contracts of private functions alone cite this section.
+
+-- what is found of a frame that is read, by the report on it
+abbrev pub finding_of : TcView → StepReport → TcFinding
+finding_of view report =
+    record {
+      vc = view.vc;
+      map = report.map;
+      ns = content_ns view.content;
+      verdict = report.verdict;
+      stray = report.stray;
+      dropped = report.dropped;
+      long = report.long;
+      tail = report.tail;
+    }
 
 -- the octets of the series that are incomplete after frames
 abbrev pub octets_held_after : Parameters → List (List ℕ) → ℕ
 octets_held_after p frames =
     count_of (map (incomplete_octets_on (reception_of p) (views_of (tc_format p) p.spacecraft frames)) map_channels)
 
--- A receiver has processed these frames. The packets that they deliver and the octets that it holds are together no
--- more than the octets of the frames (`held`). TM has `within` alone, as no more packets end in a TM frame than it has
--- octets. But with a unit all packets of its series end, and these may be more than its octets.
-pub record HasProcessedTc (p : Parameters) (state : ReceiverState) (frames : List (List ℕ)) : Type 0 where
-  pub processed : HasProcessed (reception_of p) state (views_of (tc_format p) p.spacecraft frames)
+-- A receiver or a counter has processed these frames: `had` says of those that were read that its state is the one
+-- after them. The packets that the frames deliver and the octets of the series that are incomplete after them are
+-- together no more than the octets of the frames (`held`). TM has `within` alone, as no more packets end in a TM frame
+-- than it has octets. But with a unit all packets of its series end, and these may be more than its octets.
+pub record HasProcessedTc (p : Parameters) (had : List TcView → Type 0) (frames : List (List ℕ)) : Type 0 where
+  pub processed : had (views_of (tc_format p) p.spacecraft frames)
   pub within : IsWithin (tc_kind p) frames
   pub held : number_of_packets (tc_kind p) frames + number_of_idle (tc_kind p) frames + octets_held_after p frames
       ≤ length (concat frames)

@@ -5,8 +5,9 @@ use Rattle.sl_tmframe.specs.TmDelimited.{tm_frames_of}
 use Rattle.sl_tmframe.specs.TmFrame.{TmView, DataField, Packets, Idle, Opaque, tm_frame}
 use Rattle.sl_tmflow.specs.Anomaly.{dropped_of, foreign_of, gap_of}
 use Rattle.sl_tmflow.specs.VirtualChannel.{views_on, views_of}
-use Rattle.sl_tmflow.specs.Extractor.{ExtractorState, HasProcessed, IsIncompleteAround, ended_by}
+use Rattle.sl_tmflow.specs.Extractor.{IsIncompleteAround, ended_by}
 use Rattle.sl_tmflow.specs.Recording.{packets_of_channel, tm_lists, virtual_channels}
+use Rattle.sl_tmflow.specs.StepReport.{StepReport}
 use Rattle.sl_engine.specs.Kind.Delivery.{IsWithin, Kind, MayRefuseStoreMemory, counts_in}
 use Rattle.sl_engine.specs.Link.Managed.{Parameters, tm_format}
 use Rattle.sl_engine.specs.Link.Totals.{Counts}
@@ -87,8 +88,8 @@ tm_counts_in p = counts_in (tm_kind p)
 abbrev pub tm_counts : Parameters → List ℕ → Counts
 tm_counts p = recording_counts (tm_counts_in p) (tm_frames_of p.tm_length)
 
--- a packet is incomplete before or after the last of these frames, on its virtual channel: there `check` and `packets`
--- may be refused memory
+-- a packet is incomplete before or after the last of these frames, on its virtual channel: there `packets` may be
+-- refused memory
 pub record IsIncompleteAtLastTm (p : Parameters) (frames : List (List ℕ)) : Type 0 where
   pub before : List (List ℕ)
   pub frame : List ℕ
@@ -101,7 +102,22 @@ pub record IsIncompleteAtLastTm (p : Parameters) (frames : List (List ℕ)) : Ty
 abbrev pub MayRefuseStoreMemoryTm : Parameters → List (List ℕ) → Type 0
 MayRefuseStoreMemoryTm p = MayRefuseStoreMemory (tm_kind p) (IsIncompleteAtLastTm p)
 
--- An extractor has processed these frames. Contracts of private functions alone cite this.
-pub record HasProcessedTm (p : Parameters) (state : ExtractorState) (frames : List (List ℕ)) : Type 0 where
-  pub processed : HasProcessed state (views_of (tm_format p) p.spacecraft frames)
+-- ---- an extractor or a counter. Contracts of private functions alone cite this section.
+
+-- what is found of a frame that is read, by the report on it
+abbrev pub finding_of : TmView → StepReport → TmFinding
+finding_of view report =
+    record {
+      vc = view.vc;
+      vc_count = view.vc_count;
+      gap = report.gap;
+      dropped = report.dropped;
+      opaque = is_opaque view.field;
+      foreign = report.foreign;
+    }
+
+-- An extractor or a counter has processed these frames: `had` says of those that were read that its state is the one
+-- after them.
+pub record HasProcessedTm (p : Parameters) (had : List TmView → Type 0) (frames : List (List ℕ)) : Type 0 where
+  pub processed : had (views_of (tm_format p) p.spacecraft frames)
   pub within : IsWithin (tm_kind p) frames

@@ -8,7 +8,9 @@ ghost use Rattle.sl_engine.specs.Compare.Words.{IsOneLine, word_counts, word_tex
 
 use crate::compare::signs::Signs;
 use crate::compare::words::{CheckWord, WordCounts};
-use crate::kind::{TcFound, TmFound};
+use crate::kind::Deliverer;
+use crate::kind::tc::TcFound;
+use crate::kind::tm::TmFound;
 use crate::link::managed::Managed;
 use crate::link::totals::Totals;
 use crate::verbs::check::checked::Checked;
@@ -30,8 +32,9 @@ pub struct Summary {
     pub signs: Signs,
 }
 
-/// A kind of frames whose lines of `check` are counted by their words, and whose signs are taken.
-pub trait Summarised: Checked {
+/// A deliverer of a kind of frames whose lines of `check` are counted by their words, and whose signs
+/// are taken.
+pub trait Summarised: Checked + Deliverer {
     ghost use Rattle.sl_engine.specs.Link.Managed.{Parameters};
 
     /// Whether a frame has the spacecraft's identifier, whatever else is in it.

@@ -9,7 +9,6 @@ ghost use Rattle.sl_engine.specs.Verbs.Check.Lines.{anomalies_by};
 ghost use Rattle.sl_engine.specs.Verbs.Listing.{Frames};
 
 pub mod checked;
-mod discard;
 mod lines;
 mod lines_tc;
 mod lines_tm;
@@ -18,34 +17,33 @@ use crate::io::output::{Output, Written};
 use crate::link::managed::Managed;
 use crate::link::totals::Totals;
 use crate::verbs::Verb;
-use crate::verbs::check::checked::Checked;
-use crate::verbs::check::discard::DiscardPackets;
+use crate::verbs::check::checked::AnomalyLines;
 use crate::verbs::check::lines::{push_totals, remainder_lines};
 use sl_io::LinkFault;
-use std::alloc::Global;
 use std::io::Write;
 
 /// Lists the anomalies of the frames, and those after them.
 #[derive(Drop)]
-pub struct Check<D: Checked> {
-    delivery: D,
+pub struct Check<D: AnomalyLines> {
+    counter: D,
     so_far: Totals,
 }
 
-impl<D: Checked> Check<D> {
-    /// No frame has been checked.
-    pub fn begin(alloc: Global, managed: &Managed) -> Check<D>
+impl<D: AnomalyLines> Check<D> {
+    /// No frame has been checked. Inlined, since a counter may be large: it is made where it stays.
+    #[inline(always)]
+    pub fn begin(managed: &Managed) -> Check<D>
         ensures { HasChecked (D.kind managed.now) (anomalies_by D.lines_of (D.found managed.now))
-            (D.has_processed result.delivery managed.now) [] result.so_far }
+            (D.has_processed result.counter managed.now) [] result.so_far }
     {
         Check {
-            delivery: D::begin(alloc, managed),
+            counter: D::begin(managed),
             so_far: Totals::none(),
         }
     }
 }
 
-impl<D: Checked> Verb for Check<D> {
+impl<D: AnomalyLines> Verb for Check<D> {
     ghost use Rattle.sl_engine.specs.Verbs.Check.Checking.{HasChecked};
     ghost use Rattle.sl_engine.specs.Verbs.Check.Lines.{anomalies_by, check_listing};
 
@@ -55,14 +53,14 @@ impl<D: Checked> Verb for Check<D> {
         (D.open_at p) };
 
     ghost has_listed = { λ verb p frames. HasChecked (D.kind p)
-        (anomalies_by D.lines_of (D.found p)) (D.has_processed verb.delivery p) frames
+        (anomalies_by D.lines_of (D.found p)) (D.has_processed verb.counter p) frames
         verb.so_far };
 
-    ghost may_refuse_memory = { D.is_incomplete_at_last };
+    ghost may_refuse_memory = { λ p frames. ⊥ };
 
     fn frame<W: Write>(&mut self, managed: &Managed, frame: &[u8], out: &mut Output<W>) -> Written {
         out.make_room()?;
-        let (report, found) = self.delivery.deliver(managed, frame, &mut DiscardPackets)?;
+        let (report, found) = self.counter.count(managed, frame);
         let anomalies = D::anomaly_lines(&mut out.lines, self.so_far.octets(), found);
         self.so_far.add(frame.len() as u64, report);
         self.so_far.add_anomalies(anomalies);
@@ -79,7 +77,7 @@ impl<D: Checked> Verb for Check<D> {
         let offset = self.so_far.octets();
         let remainder = octets - offset;
         let remainders = remainder_lines(&mut out.lines, offset, remainder);
-        let incomplete = incomplete_lines(&self.delivery, octets, out)?;
+        let incomplete = incomplete_lines(&self.counter, octets, out)?;
         out.make_room()?;
         let totals = self
             .so_far
@@ -91,31 +89,31 @@ impl<D: Checked> Verb for Check<D> {
 
 // Adds the lines of what is incomplete at the end of a recording, at `offset`, and answers how many
 // these are.
-fn incomplete_lines<D: Checked, W: Write>(
-    delivery: &D,
+fn incomplete_lines<D: AnomalyLines, W: Write>(
+    counter: &D,
     offset: u64,
     out: &mut Output<W>,
 ) -> Result<u64, LinkFault>
     ensures lines { OnOk result ((p : Parameters) (frames : Frames)
-        → D.has_processed delivery.now p frames → Adds W.contents out.old
+        → D.has_processed counter.now p frames → Adds W.contents out.old
         (concat (flat_map (D.open_at p offset frames) (D.kind p).channels)) out.new) }
     ensures number { IfOk result (λ number. (p : Parameters) (frames : Frames)
-        → D.has_processed delivery.now p frames
+        → D.has_processed counter.now p frames
         → number ≡ length (flat_map (D.open_at p offset frames) (D.kind p).channels)) }
     // One line at most for each channel below `open_below`, a `u16`: so the caller's sum fits.
     ensures most { IfOk result (λ number. number ≤ 65535) }
     ensures few { IfOk result (λ number. (p : Parameters) (frames : Frames)
-        → D.has_processed delivery.now p frames → number ≤ length frames) }
+        → D.has_processed counter.now p frames → number ≤ length frames) }
     ensures lent { OnErr result (KeepsWriter out.old out.new) }
     ensures fault { IfErr result (λ fault. (p : Parameters) (frames : Frames)
-        → D.has_processed delivery.now p frames
+        → D.has_processed counter.now p frames
         → StopsWriting W.contents out.old.writer.now out.new.writer.now (out.old.lines
         ++ concat (flat_map (D.open_at p offset frames) (D.kind p).channels)) ⊥ fault) }
 {
     let mut number: u64 = 0;
-    for channel in 0..delivery.open_below() {
+    for channel in 0..counter.open_below() {
         out.make_room()?;
-        number += delivery.open_lines(offset, channel, &mut out.lines);
+        number += counter.open_lines(offset, channel, &mut out.lines);
     }
     Ok(number)
 }

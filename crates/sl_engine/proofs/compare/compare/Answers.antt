@@ -13,14 +13,14 @@ pub loop-station-init : goal.loop-station-init
 loop-station-init g c =
     let p = c.args.one_managed.now in
     let p' = c.args.other_managed.now in
-    let k = g.D.Deliverer.kind p in
-    let k' = g.D.Deliverer.kind p' in
-    let laws = (g.met.D.Deliverer.within _ p [] c.begin-first.ensures.begun).adds in
-    let laws' = (g.met.D.Deliverer.within _ p' [] c.begin-second.ensures.begun).adds in
+    let k = g.D.Followed.kind p in
+    let k' = g.D.Followed.kind p' in
+    let laws = (g.D.Followed.within _ p [] c.begin-first.ensures.begun).adds in
+    let laws' = (g.D.Followed.within _ p' [] c.begin-second.ensures.begun).adds in
     let none = g.met.D.Framer.Framer.empty p in
     let none' = g.met.D.Framer.Framer.empty p' in
-    let is = ap (λ (f : List ℕ → List (List ℕ)). f []) (sym (g.met.D.Deliverer.frames p)) ∙ none in
-    let is' = ap (λ (f : List ℕ → List (List ℕ)). f []) (sym (g.met.D.Deliverer.frames p')) ∙ none' in (
+    let is = ap (λ (f : List ℕ → List (List ℕ)). f []) (sym (g.met.D.Followed.frames p)) ∙ none in
+    let is' = ap (λ (f : List ℕ → List (List ℕ)). f []) (sym (g.met.D.Followed.frames p')) ∙ none' in (
       [],
       [],
       none_read c.begin-first.ensures.framer none (none_summed k laws c.begin-first.ensures.begun c.begin-first.ensures.none c.begin-first.ensures.no_words c.begin-first.ensures.no_signs) c.begin-first.ensures.octets,
@@ -86,22 +86,22 @@ returns-clause-compared g c =
     let i = c.loop-station.invariant in
     let p = c.args.one_managed.now in
     let p' = c.args.other_managed.now in
-    let k = g.D.Deliverer.kind p in
-    let k' = g.D.Deliverer.kind p' in
+    let k = g.D.Followed.kind p in
+    let k' = g.D.Followed.kind p' in
     let d = i.2.all.cut.done in
     let d' = i.3.all.cut.done in
-    let laws = (g.met.D.Deliverer.within _ p _ d.delivered.processed).adds in
-    let laws' = (g.met.D.Deliverer.within _ p' _ d'.delivered.processed).adds in
-    let is = ap (λ (f : List ℕ → List (List ℕ)). f i.0) (sym (g.met.D.Deliverer.frames p)) ∙ i.2.all.all in
-    let is' = ap (λ (f : List ℕ → List (List ℕ)). f i.1) (sym (g.met.D.Deliverer.frames p')) ∙ i.3.all.all in
+    let laws = (g.D.Followed.within _ p _ d.delivered.processed).adds in
+    let laws' = (g.D.Followed.within _ p' _ d'.delivered.processed).adds in
+    let is = ap (λ (f : List ℕ → List (List ℕ)). f i.0) (sym (g.met.D.Followed.frames p)) ∙ i.2.all.all in
+    let is' = ap (λ (f : List ℕ → List (List ℕ)). f i.1) (sym (g.met.D.Followed.frames p')) ∙ i.3.all.all in
     let stands = alike Second c.loop-station.pairing _ _ _ (on_channels k' laws' (k'.frames_of i.1)) (alike First c.loop-station.pairing _ _ _ (on_channels k laws (k.frames_of i.0)) i.4) in
     record {
       first = i.0;
       second = i.1;
       first_read = read_whole i.2 (i.5 c.in_default.ensures.none.0);
       second_read = read_whole i.3 (i.6 c.in_default.ensures.none.1);
-      first_summary = c.summary.ensures p _ d (inside_octets i.2) ∙ summary_whole (summary_in k (anomalies_by g.D.Checked.lines_of (g.D.Deliverer.found p)) (g.D.Checked.open_at p) (signs_by (g.D.Summarised.is_own p) (g.D.Summarised.is_long p) (g.D.Summarised.begun p))) k.frames_of is i.2.size;
-      second_summary = c.summary-2.ensures p' _ d' (inside_octets i.3) ∙ summary_whole (summary_in k' (anomalies_by g.D.Checked.lines_of (g.D.Deliverer.found p')) (g.D.Checked.open_at p') (signs_by (g.D.Summarised.is_own p') (g.D.Summarised.is_long p') (g.D.Summarised.begun p'))) k'.frames_of is' i.3.size;
+      first_summary = c.summary.ensures p _ d (inside_octets i.2) ∙ summary_whole (summary_in k (anomalies_by g.D.Checked.lines_of (g.D.Followed.found p)) (g.D.Checked.open_at p) (signs_by (g.D.Summarised.is_own p) (g.D.Summarised.is_long p) (g.D.Summarised.begun p))) k.frames_of is i.2.size;
+      second_summary = c.summary-2.ensures p' _ d' (inside_octets i.3) ∙ summary_whole (summary_in k' (anomalies_by g.D.Checked.lines_of (g.D.Followed.found p')) (g.D.Checked.open_at p') (signs_by (g.D.Summarised.is_own p') (g.D.Summarised.is_long p') (g.D.Summarised.begun p'))) k'.frames_of is' i.3.size;
       left = stands;
       same = same_lists _ _ (same_lengths k k' c.requires.channels _ _) (c.answer.ensures.same _ _ stands);
       different = c.answer.ensures.different _ _ stands;

@@ -17,7 +17,7 @@ use Rattle.sl_packet.proofs.WithoutIdleLemmas.{without_idle-append}
 use Rattle.sl_engine.specs.declared.tally.FrameReport.{FrameReport}
 use Rattle.sl_engine.specs.Link.Totals.{Counts}
 use Rattle.sl_engine.specs.Tally.{counts_more, counts_so_far, counts_with_anomalies, skipped_in, no_counts}
-use Rattle.sl_engine.specs.Kind.Delivery.{AddsByChannel, AreStored, Delivers, HasDelivered, IsFrameReport, IsWithin, Kind, count_of, number_of_idle, delivered_packets, number_of_packets, with_frame, with_packets}
+use Rattle.sl_engine.specs.Kind.Delivery.{AddsByChannel, AreStored, Brings, Delivers, HasDelivered, IsFrameReport, IsWithin, Kind, count_of, number_of_idle, delivered_packets, number_of_packets, with_frame, with_packets}
 use Rattle.sl_engine.proofs.lemmas.Kind.Channels.{items_change, map_range, no_items, none_of}
 
 -- ---- frames that are counted one after another
@@ -112,7 +112,12 @@ module _ (k : Kind) (laws : AddsByChannel k) where
     pub fits_more : IsWithin k (before ++ frame ∷ []) → t.packets + report.packets + (t.idle + report.idle) ≤ t.octets + length frame
     fits_more w = rw d.counts (omega (arith, w.within, r.packets, r.idle, packets_more before frame, idle_more before frame, octets_more before frame))
 
--- what a frame brings, by its channel and the packets that end in it
+-- what a frame brings, by the packets that end in it,
+pub brings_as : {k : Kind} {before : List (List ℕ)} {frame : List ℕ} {report : FrameReport} {ended : List (List ℕ)} {skips : Bool} → k.ended before frame ≡ ended → k.is_skipped frame ≡ skips → 5 ≤ length frame
+    → report.is_skipped ≡ skips → report.packets ≡ length (without_idle ended) → report.idle ≡ length (only_idle ended) → Brings k before frame report
+brings_as ends skipping some skipped packets idle = grind arith
+
+-- and by their channel too, where they are delivered
 pub delivers_as : {S : Type 0} {taking : S → ℕ → List ℕ → S → Type 0} {k : Kind} {before : List (List ℕ)} {frame : List ℕ} {old new : S} {report : FrameReport}
     {channel : ℕ} {ended : List (List ℕ)} {skips : Bool} → k.channel frame ≡ channel → k.ended before frame ≡ ended → k.is_skipped frame ≡ skips → 5 ≤ length frame
     → TakesAll taking old channel (without_idle ended) new → report.is_skipped ≡ skips → report.packets ≡ length (without_idle ended) → report.idle ≡ length (only_idle ended)

@@ -11,11 +11,14 @@ use Rattle.sl_tcframe.specs.declared.tc_frame.TcSkip.{TcSkip}
 use Rattle.sl_tcframe.specs.TcFrame.{TcView, Content, command_of, content_of, early_reason, is_cut, tc_header_of, tc_parts_of, read_as, unit_content}
 use Rattle.sl_tcframe.proofs.PartLemmas.{cut_facts}
 use Rattle.sl_tcflow.specs.AcceptedUnit.{views_of}
-use Rattle.sl_tcflow.specs.Receiver.{ReceiverState, HasProcessed, IsIncompleteAround, unit_channel, incomplete_octets_on}
+use Rattle.sl_tcflow.specs.Anomaly.{dropped_by, long_by, stray_by, tail_by}
+use Rattle.sl_tcflow.specs.Farms.{verdict_on}
+use Rattle.sl_tcflow.specs.Receiver.{IsIncompleteAround, unit_channel, unit_map, incomplete_octets_on}
 use Rattle.sl_tcflow.specs.ReceptionParameters.{ReceptionParameters, is_plain}
 use Rattle.sl_tcflow.specs.Recording.{map_channels, packets_of_channel}
+use Rattle.sl_tcflow.specs.StepReport.{StepReport}
 use Rattle.sl_tcflow.proofs.lemmas.Reception.Channel.{held_other, held_own, packets_other, packets_own, small_map, unit_len}
-use Rattle.sl_engine.specs.Kind.Tc.{HasProcessedTc, IsIncompleteAtLastTc, as_read, unit_channel_of, ended_in, octets_held_after, tc_kind}
+use Rattle.sl_engine.specs.Kind.Tc.{HasProcessedTc, IsIncompleteAtLastTc, as_read, unit_channel_of, ended_in, finding_of, found_after, octets_held_after, tc_kind}
 use Rattle.sl_engine.specs.Kind.Delivery.{AddsByChannel, count_of, number_of_idle, number_of_packets, with_frame}
 use Rattle.sl_engine.specs.Link.Managed.{Parameters, reception_of, tc_format}
 use Rattle.sl_engine.proofs.lemmas.Kind.Delivery.{idle_more, no_idle, no_packets, none_within, octets_more, packets_more, views_next}
@@ -69,7 +72,7 @@ tc_adds_by_channel p = record {
   all = channels_are channel_count refl;
 }
 
--- ---- a receiver
+-- ---- a receiver or a counter
 
 -- the packets that end and the octets that are held after them are no more than those held before and the frame's own
 held_next : (p : Parameters) (views : List TcView) (read : Result TcView TcSkip) → unit_channel_of (reception_of p) read < channel_count
@@ -83,30 +86,40 @@ held_next p views (Ok view) range =
     let change = items_change channel_count map_channels all (incomplete_octets_on r views) (incomplete_octets_on r (views ++ view ∷ [])) at range (λ i other. ap length (held_other r views view i other)) in
     omega (arith, change, held_own r views view at refl)
 
-pub none_processed : (p : Parameters) (state : ReceiverState) → HasProcessed (reception_of p) state [] → HasProcessedTc p state []
-none_processed p state processed =
+pub none_processed : (p : Parameters) {had : List TcView → Type 0} → had [] → HasProcessedTc p had []
+none_processed p processed =
     let laws = tc_adds_by_channel p in
     let held : octets_held_after p [] ≡ 0 = no_items (incomplete_octets_on (reception_of p) []) map_channels (λ channel. refl) in
-    search (arith, none_within (tc_kind p) laws, no_packets (tc_kind p) laws, no_idle (tc_kind p) laws, held)
+    record {
+      processed = processed;
+      within = none_within (tc_kind p) laws;
+      held = omega (arith, no_packets (tc_kind p) laws, no_idle (tc_kind p) laws, held);
+    }
 
 -- a frame has five octets
 pub some_octets : (p : Parameters) (frame : List ℕ) → is_cut (tc_format p) frame ≡ true → 5 ≤ length frame
 some_octets p frame cut = let least = (cut_facts (tc_format p) frame cut).0 in omega (arith, least)
 
-pub one_processed : {p : Parameters} {before : List (List ℕ)} (frame : List ℕ) {state state' : ReceiverState} {r : Result TcView TcSkip} → HasProcessedTc p state before → as_read p frame ≡ r
-    → HasProcessed (reception_of p) state' (with_frame (views_of (tc_format p) p.spacecraft before) r) → HasProcessedTc p state' (before ++ frame ∷ [])
-one_processed {p} {before} frame had is processed =
+pub one_processed : {p : Parameters} {before : List (List ℕ)} (frame : List ℕ) {had had' : List TcView → Type 0} {r : Result TcView TcSkip} → HasProcessedTc p had before → as_read p frame ≡ r
+    → had' (with_frame (views_of (tc_format p) p.spacecraft before) r) → HasProcessedTc p had' (before ++ frame ∷ [])
+one_processed {p} {before} frame h is processed =
     let laws = tc_adds_by_channel p in
     let seen = views_of (tc_format p) p.spacecraft before in
     let read = as_read p frame in
     let next = views_next (as_read p) before frame in
-    let within = had.held in
+    let within = h.held in
     let held_is = ap (λ views. count_of (map (incomplete_octets_on (reception_of p) views) map_channels)) next in
     let few = held_next p seen read (small_channel p frame) in
     let split = split_count (ended_in (reception_of p) seen read) in
     let held : number_of_packets (tc_kind p) (before ++ frame ∷ []) + number_of_idle (tc_kind p) (before ++ frame ∷ []) + octets_held_after p (before ++ frame ∷ []) ≤ length (concat (before ++ frame ∷ [])) =
     omega (arith, within, few, held_is, unit_within p frame, split, packets_more (tc_kind p) laws before frame, idle_more (tc_kind p) laws before frame, octets_more before frame) in
     record { processed = rw (next, is) processed; within = record { adds = laws; within = omega (arith, held) }; held = held }
+
+-- the report on a frame that is read says what is found of it
+pub finding_is : (p : Parameters) (frame : List ℕ) {view : TcView} (r : ReceptionParameters) (seen : List TcView) (report : StepReport) → as_read p frame ≡ Ok view
+    → report.map ≡ unit_map r view → report.verdict ≡ verdict_on r seen view → report.stray ≡ stray_by r seen view → report.dropped ≡ dropped_by r seen view
+    → report.long ≡ long_by r seen view → report.tail ≡ tail_by r seen view → Ok (finding_of view report) ≡ found_after r seen (as_read p frame)
+finding_is p frame r seen report read map_is verdict stray dropped long tail = rw (map_is, verdict, stray, dropped, long, tail) (sym (ap (found_after r seen) read))
 
 -- the next frame's unit is accepted, and a series is incomplete before or after it on its MAP, where that frame is read
 abbrev pub is_incomplete_around : ReceptionParameters → List TcView → Result TcView TcSkip → Type 0

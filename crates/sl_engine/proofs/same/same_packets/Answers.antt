@@ -3,7 +3,7 @@ use Rattle.sl_engine.proofs.same.same_packets.Goals as goal
 
 pub returns-clause-same : goal.returns-clause-same
 returns-clause-same g c =
-    let k = g.D.Deliverer.kind c.args.managed.now in
+    let k = g.D.Followed.kind c.args.managed.now in
     let d = c.in_ok-stored.ensures.all in
     let e = c.in_ok-others.ensures.all in
     record {

@@ -7,7 +7,7 @@ ghost use Rattle.sl_engine.specs.Verbs.Check.Tc.{tc_anomaly_lines, discarded_ano
 
 use crate::io::lines::Lines;
 use crate::io::words::{push_tc_skip, push_verdict};
-use crate::kind::TcFound;
+use crate::kind::tc::TcFound;
 use crate::verbs::check::lines::{AnomalyPlace, event_lines, push_part};
 use sl_cop::Verdict;
 use sl_tcframe::TcSkip;

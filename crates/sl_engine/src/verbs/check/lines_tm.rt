@@ -7,7 +7,7 @@ ghost use Rattle.sl_engine.specs.Verbs.Check.Tm.{gap_anomaly, tm_anomaly_lines};
 
 use crate::io::lines::Lines;
 use crate::io::words::push_tm_skip;
-use crate::kind::TmFound;
+use crate::kind::tm::TmFound;
 use crate::verbs::check::lines::{AnomalyPlace, event_lines, push_part};
 use sl_tmframe::TmSkip;
 

@@ -26,12 +26,12 @@ pub returns-in_err-taken-clause-fault : goal.returns-in_err-taken-clause-fault
 returns-in_err-taken-clause-fault g c =
     passed_up _ _ c.from_residual.ensures.1 (λ begun so_far s.
     let stop = c.in_err-taken.ensures.fault begun so_far (passed_as (λ frames d. (refl, refl, turn_begins d (frames_counted d.delivered))) s) in
-    (stops_alone stop (λ frames t. t.1.0), memory_of stop (g.met.D.Deliverer.frames c.args.managed.now) (λ frames t. t.1.1)))
+    (stops_alone stop (λ frames t. t.1.0), memory_of stop (g.met.D.Followed.frames c.args.managed.now) (λ frames t. t.1.1)))
 
 pub returns-clause-paired : goal.returns-clause-paired
 returns-clause-paired g c = λ begun so_far s.
     let p = c.args.managed.now in
-    let same = λ (octets : List ℕ). ap (λ (f : List ℕ → List (List ℕ)). f octets) (g.met.D.Deliverer.frames p) in
+    let same = λ (octets : List ℕ). ap (λ (f : List ℕ → List (List ℕ)). f octets) (g.met.D.Followed.frames p) in
     let after = c.in_ok-taken.ensures.passed begun so_far (passed_as (λ frames d. (refl, refl, turn_begins d (frames_counted d.delivered))) s) in
     let t = after.1.all.cut.done in
     let its = sym after.1.all.all ∙ taken_first (more_came s after.0) g.met.D.Framer.Framer.front in

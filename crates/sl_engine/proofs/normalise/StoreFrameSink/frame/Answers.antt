@@ -9,8 +9,8 @@ add-requires-clause-within g c =
     let p = c.args.managed.now in
     let before = c.requires.before in
     let d = c.requires.taken.0 in
-    let within = g.met.D.Deliverer.within in
-    fits_more (g.D.Deliverer.kind p) (within _ p before d.processed).adds d (c.in_ok-report.ensures.delivers before d.processed).brings.reported
+    let within = g.D.Followed.within in
+    fits_more (g.D.Followed.kind p) (within _ p before d.processed).adds d (c.in_ok-report.ensures.delivers before d.processed).brings.reported
     (within _ p (before ++ c.args.frame.now ∷ []) (c.in_ok-report.ensures.processed before d.processed))
 
 pub returns-in_err-report-clause-fault : goal.returns-in_err-report-clause-fault
@@ -22,16 +22,16 @@ returns-in_err-report-clause-fault g c =
       memory_refused _ _ _ (λ old channel packet fault new fails. fails.0) _ _ _ _ _ s,
       elim (incomplete_or_some _ _ _ _ _ _ _ _ s (c.in_err-report.ensures.memory before had)) [
         | inl incomplete ↦ inl incomplete
-        | inr some ↦ inr (omega (arith, some, packets_more (g.D.Deliverer.kind p) (g.met.D.Deliverer.within _ p before had).adds before c.args.frame.now))
+        | inr some ↦ inr (omega (arith, some, packets_more (g.D.Followed.kind p) (g.D.Followed.within _ p before had).adds before c.args.frame.now))
       ],
     ))
 
 pub returns-clause-taken : goal.returns-clause-taken
 returns-clause-taken g c = λ start before t.
     let p = c.args.managed.now in
-    let k = g.D.Deliverer.kind p in
+    let k = g.D.Followed.kind p in
     let had = t.0.processed in
-    let laws = (g.met.D.Deliverer.within _ p before had).adds in
+    let laws = (g.D.Followed.within _ p before had).adds in
     let d = c.in_ok-report.ensures.delivers before had in
     let b = d.brings in (
       rw c.add.ensures (delivered_more k laws t.0 b.reported (c.in_ok-report.ensures.processed before had) (omega (arith, b.some))),

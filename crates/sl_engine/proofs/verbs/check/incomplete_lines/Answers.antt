@@ -5,13 +5,13 @@ use Rattle.sl_engine.proofs.lemmas.Verbs.Check.Lines.{added_all, added_next, add
 use Rattle.sl_engine.proofs.verbs.check.incomplete_lines.Goals as goal
 
 pub loop-channel-init : goal.loop-channel-init
-loop-channel-init g c = (λ p frames h. added_none (g.met.D.Deliverer.within _ p frames h).adds.all, (omega arith, refl))
+loop-channel-init g c = (λ p frames h. added_none (g.D.Followed.within _ p frames h).adds.all, (omega arith, refl))
 
 pub loop-channel-preserved : goal.loop-channel-preserved
 loop-channel-preserved g c =
     let i = c.loop-channel.invariant in (
       λ p frames h.
-          let within : c.loop-channel.channel < (g.D.Deliverer.kind p).channel_limit =
+          let within : c.loop-channel.channel < (g.D.Followed.kind p).channel_limit =
           omega (arith, c.loop-channel-test.true, c.open_below-channel-end.ensures.most, c.open_below-channel-end.ensures.all p) in
           added_next (i.0 p frames h) within (adds_both c.in_ok-make_room.ensures.kept (adds_lines _ _ _ _ refl ((c.open_lines-number.ensures.added p frames h).text)))
           ((c.open_lines-number.ensures.added p frames h).number),

@@ -14,15 +14,15 @@ deliver-requires g c = (c.requires.0, c.requires.1.delivered.processed, c.requir
 pub count_lines-anomalies-requires : goal.count_lines-anomalies-requires
 count_lines-anomalies-requires g c =
     let d = c.requires.1 in
-    (lines_from (anomalies_by g.D.Checked.lines_of (g.D.Deliverer.found c.args.managed.now)) [] c.requires.0, d.words, lines_fit d.delivered c.args.frame.now c.requires.3 (c.in_ok-report.ensures.delivers c.requires.0 d.delivered.processed).brings.some)
+    (lines_from (anomalies_by g.D.Checked.lines_of (g.D.Followed.found c.args.managed.now)) [] c.requires.0, d.words, lines_fit d.delivered c.args.frame.now c.requires.3 (c.in_ok-report.ensures.delivers c.requires.0 d.delivered.processed).brings.some)
 
 pub add-requires-clause-within : goal.add-requires-clause-within
 add-requires-clause-within g c =
     let p = c.args.managed.now in
     let before = c.requires.0 in
     let d = c.requires.1.delivered in
-    let within = g.met.D.Deliverer.within in
-    fits_more (g.D.Deliverer.kind p) (within _ p before d.processed).adds d (c.in_ok-report.ensures.delivers before d.processed).brings.reported
+    let within = g.D.Followed.within in
+    fits_more (g.D.Followed.kind p) (within _ p before d.processed).adds d (c.in_ok-report.ensures.delivers before d.processed).brings.reported
     (within _ p (before ++ c.args.frame.now ∷ []) (c.in_ok-report.ensures.processed before d.processed))
 
 pub add_anomalies-requires : goal.add_anomalies-requires
@@ -32,7 +32,7 @@ add_anomalies-requires g c =
     let d = c.requires.1.delivered in
     let b = (c.in_ok-report.ensures.delivers before d.processed).brings in
     let few = c.count_lines-anomalies.ensures.few p before c.args.frame.now c.requires.2 b.some (c.in_ok-report.ensures.found before d.processed) in
-    rw c.add.ensures (anomalies_fit (g.D.Deliverer.kind p) (g.met.D.Deliverer.within _ p before d.processed).adds d b.reported few)
+    rw c.add.ensures (anomalies_fit (g.D.Followed.kind p) (g.D.Followed.within _ p before d.processed).adds d b.reported few)
 
 pub take-requires : goal.take-requires
 take-requires g c =
@@ -48,10 +48,10 @@ pub returns-clause-delivered : goal.returns-clause-delivered
 returns-clause-delivered g c = λ before s.
     let p = c.args.managed.now in
     let frame = c.args.frame.now in
-    let k = g.D.Deliverer.kind p in
+    let k = g.D.Followed.kind p in
     let d = s.delivered in
     let offset = length (concat before) in
-    let laws = (g.met.D.Deliverer.within _ p before d.processed).adds in
+    let laws = (g.D.Followed.within _ p before d.processed).adds in
     let delivers = c.in_ok-report.ensures.delivers before d.processed in
     let b = delivers.brings in
     let found = c.in_ok-report.ensures.found before d.processed in

@@ -16,7 +16,7 @@ add-remainders-requires g c =
     let d = r.2.delivered in
     let offset = c.octets.result in
     let n = c.args.self.now.octets - offset in (
-      lines_from (anomalies_by g.D.Checked.lines_of (g.D.Deliverer.found r.0)) [] r.1,
+      lines_from (anomalies_by g.D.Checked.lines_of (g.D.Followed.found r.0)) [] r.1,
       remainder_anomaly 0 n,
       r.2.words,
       rest_one 0 (omega arith) n,
@@ -29,7 +29,7 @@ count_incomplete-incomplete-requires g c =
     let d = r.2.delivered in
     let offset = c.octets.result in
     let n = c.args.self.now.octets - offset in
-    let lines = lines_from (anomalies_by g.D.Checked.lines_of (g.D.Deliverer.found r.0)) [] r.1 in
+    let lines = lines_from (anomalies_by g.D.Checked.lines_of (g.D.Followed.found r.0)) [] r.1 in
     let more = remainder_anomaly 0 n in (
       r.0,
       r.1,
@@ -58,20 +58,20 @@ with_remainder-requires-clause-few g c =
 
 pub returns : goal.returns
 returns g c = λ p frames s inside.
-    let k = g.D.Deliverer.kind p in
+    let k = g.D.Followed.kind p in
     let d = s.delivered in
     let octets = c.args.self.now.octets in
     let offset = c.octets.result in
     let ends = c.octets.ensures ∙ octets_counted d in
     let small : octets < 2 ^ 64 = omega arith in
     let less : offset < 2 ^ 64 = omega arith in
-    let lines = lines_from (anomalies_by g.D.Checked.lines_of (g.D.Deliverer.found p)) [] frames in
+    let lines = lines_from (anomalies_by g.D.Checked.lines_of (g.D.Followed.found p)) [] frames in
     let more = remainder_anomaly offset (octets - offset) in
     let one = rest_one offset less (octets - offset) in
     let left = flat_map (g.D.Checked.open_at p octets frames) k.channels in
     let words = c.count_incomplete-incomplete.ensures.words p octets frames (lines ++ more) small d.processed (c.add-remainders.ensures.counted lines more s.words one) in
     let all = append_assoc lines more left ∙ ap (λ l. lines ++ l) (end_is k (g.D.Checked.open_at p) frames offset octets ends inside) in
     same_summary
-    (c.with_remainder.ensures ∙ all_counted k (g.D.Checked.open_at p) frames offset octets ends inside (anomalies_by g.D.Checked.lines_of (g.D.Deliverer.found p)) d (c.add-remainders.ensures.number more one)
+    (c.with_remainder.ensures ∙ all_counted k (g.D.Checked.open_at p) frames offset octets ends inside (anomalies_by g.D.Checked.lines_of (g.D.Followed.found p)) d (c.add-remainders.ensures.number more one)
     (c.count_incomplete-incomplete.ensures.number p octets frames small d.processed))
     (words ∙ ap word_counts all) s.signs

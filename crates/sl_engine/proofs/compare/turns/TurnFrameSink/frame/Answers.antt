@@ -21,7 +21,7 @@ returns-in_err-deliver-clause-fault g c =
         memory_refused _ _ _ (λ old channel packet fault new fails. fails) _ _ _ _ _ s.0,
         elim (incomplete_or_some _ _ _ _ _ _ _ _ s.0 s.1) [
           | inl incomplete ↦ inl incomplete
-          | inr some ↦ inr (omega (arith, some, packets_more (g.D.Deliverer.kind p) (g.met.D.Deliverer.within _ p before had).adds before c.args.frame.now))
+          | inr some ↦ inr (omega (arith, some, packets_more (g.D.Followed.kind p) (g.D.Followed.within _ p before had).adds before c.args.frame.now))
         ],
       ),
     ))
@@ -30,4 +30,4 @@ pub returns-clause-taken : goal.returns-clause-taken
 returns-clause-taken g c = λ start before t.
     let p = c.args.managed.now in
     let d = c.in_ok-deliver.ensures.delivered before t.2.delivered in
-    (t.0, t.1, turn_goes_on before c.args.frame.now (g.met.D.Deliverer.within _ p before t.2.delivered.delivered.processed).adds t.2 d.0 d.1)
+    (t.0, t.1, turn_goes_on before c.args.frame.now (g.D.Followed.within _ p before t.2.delivered.delivered.processed).adds t.2 d.0 d.1)

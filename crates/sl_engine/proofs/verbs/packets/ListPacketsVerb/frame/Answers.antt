@@ -9,8 +9,8 @@ add-requires-clause-within g c =
     let p = c.args.managed.now in
     let before = c.requires.0 in
     let d = c.requires.1 in
-    let within = g.met.D.Deliverer.within in
-    fits_more (g.D.Deliverer.kind p) (within _ p before d.processed).adds d (c.in_ok-report.ensures.delivers before d.processed).brings.reported
+    let within = g.D.Followed.within in
+    fits_more (g.D.Followed.kind p) (within _ p before d.processed).adds d (c.in_ok-report.ensures.delivers before d.processed).brings.reported
     (within _ p (before ++ c.args.frame.now ∷ []) (c.in_ok-report.ensures.processed before d.processed))
 
 pub returns-in_err-report-clause-lent : goal.returns-in_err-report-clause-lent
@@ -33,5 +33,5 @@ pub returns-clause-has_listed : goal.returns-clause-has_listed
 returns-clause-has_listed g c = λ before h.
     let p = c.args.managed.now in
     let b = (c.in_ok-report.ensures.delivers before h.processed).brings in
-    rw c.add.ensures (delivered_more (g.D.Deliverer.kind p) (g.met.D.Deliverer.within _ p before h.processed).adds h b.reported (c.in_ok-report.ensures.processed before h.processed)
+    rw c.add.ensures (delivered_more (g.D.Followed.kind p) (g.D.Followed.within _ p before h.processed).adds h b.reported (c.in_ok-report.ensures.processed before h.processed)
     (omega (arith, b.some)))

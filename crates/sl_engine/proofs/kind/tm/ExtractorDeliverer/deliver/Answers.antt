@@ -5,9 +5,9 @@ use Rattle.sl_tmflow.specs.VirtualChannel.{views_of}
 use Rattle.sl_engine.specs.Kind.Tm.{as_read, ended_in, found_after, vc_of}
 use Rattle.sl_engine.specs.Link.Managed.{tm_format}
 use Rattle.sl_engine.proofs.lemmas.Kind.Delivery.{delivers_as}
-use Rattle.sl_engine.proofs.lemmas.Kind.Tm.{one_processed, some_octets, is_incomplete_at_last}
+use Rattle.sl_engine.proofs.lemmas.Kind.Tm.{finding_is, is_incomplete_at_last, one_processed, some_octets}
 use Rattle.sl_engine.proofs.lemmas.Link.Fault.{never_failed}
-use Rattle.sl_engine.proofs.kind.ExtractorDeliverer.deliver.Goals as goal
+use Rattle.sl_engine.proofs.kind.tm.ExtractorDeliverer.deliver.Goals as goal
 
 pub returns-in-Err-clause-processed : goal.returns-in-Err-clause-processed
 returns-in-Err-clause-processed g c =
@@ -35,8 +35,8 @@ returns-clause-delivers g c =
     let seen = views_of (tm_format p) p.spacecraft before in
     let long = some_octets c.args.frame.now c.managed.invariant.allowed c.managed.view_is c.requires.2 in
     delivers_as (ap vc_of read) (ap (ended_in seen) read) (ap is_err read)
-    (omega (arith, long)) (c.in-Ok-frame.ensures.accepted seen h.processed) refl
-    (c.packets.ensures ∙ c.in-Ok-frame.ensures.packets seen h.processed) (c.idle.ensures ∙ c.in-Ok-frame.ensures.idle seen h.processed)
+    (omega (arith, long)) (c.in-Ok-frame.ensures.accepted seen h.processed) c.report_of.ensures.is_read
+    (c.report_of.ensures.packets ∙ c.in-Ok-frame.ensures.packets seen h.processed) (c.report_of.ensures.idle ∙ c.in-Ok-frame.ensures.idle seen h.processed)
 
 pub returns-clause-found : goal.returns-clause-found
 returns-clause-found g c =
@@ -45,8 +45,7 @@ returns-clause-found g c =
     λ before h.
     let seen = views_of (tm_format p) p.spacecraft before in
     let e = c.in-Ok-frame.ensures in
-    rw (c.vc.ensures.value, c.vc_count.ensures, c.gap.ensures ∙ e.gap seen h.processed, c.dropped.ensures.value ∙ e.dropped seen h.processed, c.is_opaque.ensures, c.field.ensures.value, c.foreign.ensures ∙ e.foreign)
-    (sym (ap (found_after seen) read))
+    c.report_of.ensures.found ∙ finding_is p c.args.frame.now seen c.in-Ok-frame.step read (e.gap seen h.processed) (e.dropped seen h.processed) e.foreign
 
 pub returns-in-Err-frame-clause-stopped : goal.returns-in-Err-frame-clause-stopped
 returns-in-Err-frame-clause-stopped g c =

@@ -3,7 +3,7 @@ use Rattle.sl_tmflow.specs.VirtualChannel.{views_of}
 use Rattle.sl_engine.specs.Link.Managed.{tm_format}
 use Rattle.sl_engine.specs.Verbs.Check.Checking.{AddsAnomalies}
 use Rattle.sl_engine.proofs.lemmas.Verbs.Check.FewTm.{open_is}
-use Rattle.sl_engine.proofs.verbs.check.checked.ExtractorChecked.open_lines.Goals as goal
+use Rattle.sl_engine.proofs.verbs.check.checked.PacketCounterAnomalyLines.open_lines.Goals as goal
 
 pub returns-clause-added : goal.returns-clause-added
 returns-clause-added c = λ p frames h.

@@ -5,9 +5,9 @@ use Rattle.sl_tcflow.specs.AcceptedUnit.{views_of}
 use Rattle.sl_engine.specs.Kind.Tc.{as_read, unit_channel_of, ended_in, found_after}
 use Rattle.sl_engine.specs.Link.Managed.{reception_of, tc_format}
 use Rattle.sl_engine.proofs.lemmas.Kind.Delivery.{delivers_as}
-use Rattle.sl_engine.proofs.lemmas.Kind.Tc.{one_processed, some_octets, is_incomplete_at_last}
+use Rattle.sl_engine.proofs.lemmas.Kind.Tc.{finding_is, is_incomplete_at_last, one_processed, some_octets}
 use Rattle.sl_engine.proofs.lemmas.Link.Fault.{never_failed}
-use Rattle.sl_engine.proofs.kind.ReceiverDeliverer.deliver.Goals as goal
+use Rattle.sl_engine.proofs.kind.tc.ReceiverDeliverer.deliver.Goals as goal
 
 pub returns-in-Err-clause-processed : goal.returns-in-Err-clause-processed
 returns-in-Err-clause-processed g c =
@@ -50,8 +50,8 @@ returns-clause-delivers g c =
     let r = reception_of p in
     let seen = views_of (tc_format p) p.spacecraft before in
     delivers_as (ap (unit_channel_of r) read) (ap (ended_in r seen) read) (ap is_err read) (some_octets p c.args.frame.now c.requires.2)
-    (c.in-Ok-frame.ensures.accepted r seen h.processed) refl
-    (c.packets.ensures ∙ c.in-Ok-frame.ensures.packets r seen h.processed) (c.idle.ensures ∙ c.in-Ok-frame.ensures.idle r seen h.processed)
+    (c.in-Ok-frame.ensures.accepted r seen h.processed) c.report_of.ensures.is_read
+    (c.report_of.ensures.packets ∙ c.in-Ok-frame.ensures.packets r seen h.processed) (c.report_of.ensures.idle ∙ c.in-Ok-frame.ensures.idle r seen h.processed)
 
 pub returns-clause-found : goal.returns-clause-found
 returns-clause-found g c =
@@ -61,18 +61,8 @@ returns-clause-found g c =
     let r = reception_of p in
     let seen = views_of (tc_format p) p.spacecraft before in
     let e = c.in-Ok-frame.ensures in
-    rw (
-      c.vc.ensures.value,
-      c.map.ensures.value ∙ e.map r seen h.processed,
-      c.content_ns.ensures,
-      c.content.ensures.value,
-      c.verdict.ensures ∙ e.verdict r seen h.processed,
-      c.stray.ensures ∙ e.stray r seen h.processed,
-      c.dropped.ensures.value ∙ e.dropped r seen h.processed,
-      c.long.ensures ∙ e.long r seen h.processed,
-      c.tail.ensures ∙ e.tail r seen h.processed,
-    )
-    (sym (ap (found_after r seen) read))
+    c.report_of.ensures.found ∙ finding_is p c.args.frame.now r seen c.in-Ok-frame.step read (e.map r seen h.processed) (e.verdict r seen h.processed) (e.stray r seen h.processed)
+    (e.dropped r seen h.processed) (e.long r seen h.processed) (e.tail r seen h.processed)
 
 pub returns-in-Err-frame-clause-stopped : goal.returns-in-Err-frame-clause-stopped
 returns-in-Err-frame-clause-stopped g c =

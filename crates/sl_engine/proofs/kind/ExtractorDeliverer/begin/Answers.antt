@@ -1,5 +1,0 @@
-use Rattle.sl_engine.proofs.lemmas.Kind.Tm.{none_processed}
-use Rattle.sl_engine.proofs.kind.ExtractorDeliverer.begin.Goals as goal
-
-pub returns : goal.returns
-returns c = none_processed c.args._managed.now c.new.result c.new.ensures.processed

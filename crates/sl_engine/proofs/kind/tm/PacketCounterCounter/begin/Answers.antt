@@ -1,0 +1,5 @@
+use Rattle.sl_engine.proofs.lemmas.Kind.Tm.{none_processed}
+use Rattle.sl_engine.proofs.kind.tm.PacketCounterCounter.begin.Goals as goal
+
+pub returns : goal.returns
+returns c = none_processed c.args._managed.now c.new.ensures

@@ -66,14 +66,14 @@ const CASES: [Case; 8] = [
 ];
 
 // Whether an engine writes all; or memory was refused, and it wrote the beginning, and nothing of a
-// normal form. No other fault comes, and `show` takes no memory.
+// normal form. No other fault comes, and `show` and `check` take no memory.
 fn is_so(verb: Verb, ending: &Ending<Page>, whole: &[u8]) -> bool {
     let octets = ending.writer.octets.as_slice();
     if ending.outcome.is_ok() {
         return octets == whole;
     }
     ending.is_fault(LinkFault::Memory, (0, 0))
-        && verb != Verb::Show
+        && matches!(verb, Verb::Packets | Verb::Normalise)
         && whole.starts_with(octets)
         && (verb != Verb::Normalise || octets.is_empty())
 }

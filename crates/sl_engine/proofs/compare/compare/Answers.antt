@@ -1,4 +1,5 @@
 use Rattle.std.proofs.Common.{◌≡◌, ◌++◌, [], sym, ◌∙◌, ap, arith, inl, inr, length, List, ℕ, false, true}
+use Rattle.std.proofs.lemmas.Result.{IfOk-from_err}
 use Rattle.sl_pair.specs.declared.channel.Station.TheVariants.{First, Second}
 use Rattle.sl_engine.specs.Compare.Signs.{signs_by}
 use Rattle.sl_engine.specs.Compare.Summarised.{summary_in}
@@ -30,6 +31,16 @@ loop-station-init g c =
       λ is_read. absurd (let bad : false ≡ true = sym c.begin-second.ensures.not_read ∙ is_read in cc),
     )
 
+pub read_turn-requires-clause-ready : goal.read_turn-requires-clause-ready
+read_turn-requires-clause-ready g c =
+    let i = c.loop-station.invariant in
+    (c.args.one.now, i.0, i.2)
+
+pub read_turn-requires-in-Second-clause-ready : goal.read_turn-requires-in-Second-clause-ready
+read_turn-requires-in-Second-clause-ready g c =
+    let i = c.loop-station.invariant in
+    (c.args.other.now, i.1, i.3)
+
 pub loop-station-smaller-in-Continue-1 : goal.loop-station-smaller-in-Continue-1
 loop-station-smaller-in-Continue-1 g c =
     omega (arith, nearer_end _ _ _ _ _ (c.in-Some.ensures.first c.in-First.is) c.loop-station.invariant.2.allowed c.in_ok-read_turn-in-First.ensures.nearer)
@@ -40,12 +51,28 @@ loop-station-preserved-in-Continue-1 g c =
     let next = c.in_ok-read_turn-in-First.ensures.paired c.args.one.now i.0 i.2 in
     (i.0 ++ next.0, i.1, next.1, i.3, next.2 _ i.4, c.in_ok-read_turn-in-First.ensures.end, i.6)
 
+pub returns-in_err-read_turn-in-First-clause-compared :
+    goal.returns-in_err-read_turn-in-First-clause-compared
+returns-in_err-read_turn-in-First-clause-compared g c = IfOk-from_err c.from_residual.result _ c.from_residual.ensures.0
+
 pub returns-in_err-read_turn-in-First-clause-fault :
     goal.returns-in_err-read_turn-in-First-clause-fault
 returns-in_err-read_turn-in-First-clause-fault g c =
     let i = c.loop-station.invariant in
     let size : length c.loop-station.buffer ≡ chunk_size = omega arith in
     passed_up _ _ c.from_residual.ensures.1 (inl (rw size at (c.in_err-read_turn-in-First.ensures.fault c.args.one.now i.0 i.2).0, beginning i.3))
+
+pub returns-in_err-read_turn-in-First-clause-memory :
+    goal.returns-in_err-read_turn-in-First-clause-memory
+returns-in_err-read_turn-in-First-clause-memory g c =
+    let i = c.loop-station.invariant in
+    passed_up _ _ c.from_residual.ensures.1 (λ memory. inl ((c.in_err-read_turn-in-First.ensures.fault c.args.one.now i.0 i.2).1 memory))
+
+pub returns-in_err-read_turn-in-Second-clause-compared :
+    goal.returns-in_err-read_turn-in-Second-clause-compared
+returns-in_err-read_turn-in-Second-clause-compared g c =
+    let r = c.from_residual-in_err-read_turn-in-Second in
+    IfOk-from_err r.result _ r.ensures.0
 
 pub returns-in_err-read_turn-in-Second-clause-fault :
     goal.returns-in_err-read_turn-in-Second-clause-fault

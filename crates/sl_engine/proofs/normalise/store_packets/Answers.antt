@@ -1,4 +1,5 @@
 use Rattle.std.proofs.Common.{[], rules}
+use Rattle.std.proofs.lemmas.Result.{IfOk-from_err}
 use Rattle.sl_engine.proofs.lemmas.Kind.Delivery.{none_delivered, none_stored}
 use Rattle.sl_engine.proofs.lemmas.Framing.Reading.{memory_of}
 use Rattle.sl_engine.proofs.lemmas.Link.Answers.{passed_up}
@@ -13,6 +14,9 @@ read_recording-requires-clause-begun g c =
 
 pub returns-clause-all : goal.returns-clause-all
 returns-clause-all g c = let all = rw (g.met.D.Followed.frames c.args.managed.now) at c.in_ok-octets.ensures.all in search rules
+
+pub returns-in_err-octets-clause-all : goal.returns-in_err-octets-clause-all
+returns-in_err-octets-clause-all g c = IfOk-from_err c.from_residual.result _ c.from_residual.ensures.0
 
 pub returns-in_err-octets-clause-memory : goal.returns-in_err-octets-clause-memory
 returns-in_err-octets-clause-memory g c =

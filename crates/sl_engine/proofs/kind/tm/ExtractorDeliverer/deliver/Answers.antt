@@ -17,6 +17,21 @@ returns-in-Err-clause-processed g c =
     let long = some_octets c.args.frame.now c.managed.invariant.allowed c.managed.view_is c.requires.2 in
     one_processed c.args.frame.now long h skipped h.processed
 
+pub returns-in-Err-clause-delivers : goal.returns-in-Err-clause-delivers
+returns-in-Err-clause-delivers g c =
+    let p = c.args.managed.now in
+    let skipped : as_read p c.args.frame.now ≡ Err c.in-Err.reason = search rules in
+    λ before h.
+    let seen = views_of (tm_format p) p.spacecraft before in
+    let long = some_octets c.args.frame.now c.managed.invariant.allowed c.managed.view_is c.requires.2 in
+    delivers_as (ap vc_of skipped) (ap (ended_in seen) skipped) (ap is_err skipped) (omega (arith, long)) refl refl refl refl
+
+pub returns-in-Err-clause-found : goal.returns-in-Err-clause-found
+returns-in-Err-clause-found g c =
+    let p = c.args.managed.now in
+    let skipped : as_read p c.args.frame.now ≡ Err c.in-Err.reason = search rules in
+    λ before h. sym (ap (found_after (views_of (tm_format p) p.spacecraft before)) skipped)
+
 pub returns-clause-processed : goal.returns-clause-processed
 returns-clause-processed g c =
     let p = c.args.managed.now in

@@ -237,7 +237,7 @@ pub fn store_packets<D: Deliverer, R: Read>(
 {
     let mut buffer = [0; CHUNK_SIZE];
     let mut store = Store {
-        delivery: D::begin(alloc, managed),
+        deliverer: D::begin(alloc, managed),
         so_far: Totals::none(),
         delivered: Delivered::new(alloc),
     };
@@ -270,7 +270,7 @@ pub fn store_packets_in_memory<D: Deliverer>(
 {
     let mut framer = D::Framer::begin(managed);
     let mut store = Store {
-        delivery: D::begin(alloc, managed),
+        deliverer: D::begin(alloc, managed),
         so_far: Totals::none(),
         delivered: Delivered::new(alloc),
     };
@@ -282,7 +282,7 @@ pub fn store_packets_in_memory<D: Deliverer>(
 // Stores the packets that frames deliver.
 #[derive(Drop)]
 struct Store<D: Deliverer> {
-    delivery: D,
+    deliverer: D,
     so_far: Totals,
     delivered: Delivered,
 }
@@ -295,14 +295,14 @@ impl<D: Deliverer> FrameSink for Store<D> {
 
     // What holds of the store, `now`, after these frames, whatever store it was at the `start`. It
     // counts no anomalies: that is the 0.
-    ghost took = { λ p start now frames. HasDelivered (D.kind p) (D.has_processed now.delivery p)
+    ghost took = { λ p start now frames. HasDelivered (D.kind p) (D.has_processed now.deliverer p)
         frames 0 now.so_far × AreStored (D.kind p) frames now.delivered.lists };
 
     ghost stopped = { λ p start now frames fault. IsMemoryRefused (MayRefuseStoreMemory (D.kind p)
         (D.is_incomplete_at_last p) frames) fault };
 
     fn frame(&mut self, managed: &Managed, frame: &[u8]) -> Result<(), LinkFault> {
-        let (report, _) = self.delivery.deliver(managed, frame, &mut self.delivered)?;
+        let (report, _) = self.deliverer.deliver(managed, frame, &mut self.delivered)?;
         self.so_far.add(frame.len() as u64, report);
         Ok(())
     }

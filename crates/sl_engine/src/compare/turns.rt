@@ -32,7 +32,7 @@ use std::io::Read;
 /// What the frames of a recording delivered so far, counted, and their signs.
 #[derive(Drop)]
 pub struct Counting<D: Summarised> {
-    pub delivery: D,
+    pub deliverer: D,
     pub so_far: Totals,
     pub words: WordCounts,
     pub signs: Signs,
@@ -48,31 +48,31 @@ impl<D: Summarised> Counting<D> {
     ) -> Result<(), FlowFault>
         requires { (before : List (List ℕ)) × HasSummed (D.kind managed.now)
             (anomalies_by D.lines_of (D.found managed.now))
-            (D.has_processed self.old.delivery managed.now)
+            (D.has_processed self.old.deliverer managed.now)
             (signs_by (D.is_own managed.now) (D.is_long managed.now) (D.begun managed.now))
             self.old.so_far self.old.words self.old.signs before
             × D.Framer.is_frame managed.now frame.now
             × (length (concat before) + length frame.now < 2 ^ 64) }
         ensures delivered { OnOk result ((before : List (List ℕ))
             → HasSummed (D.kind managed.now) (anomalies_by D.lines_of (D.found managed.now))
-            (D.has_processed self.old.delivery managed.now)
+            (D.has_processed self.old.deliverer managed.now)
             (signs_by (D.is_own managed.now) (D.is_long managed.now) (D.begun managed.now))
             self.old.so_far self.old.words self.old.signs before
             → HasSummed (D.kind managed.now) (anomalies_by D.lines_of (D.found managed.now))
-            (D.has_processed self.new.delivery managed.now)
+            (D.has_processed self.new.deliverer managed.now)
             (signs_by (D.is_own managed.now) (D.is_long managed.now) (D.begun managed.now))
             self.new.so_far self.new.words self.new.signs (before ++ frame.now ∷ [])
             × TakesAll P.taking sink.old ((D.kind managed.now).channel frame.now)
             (without_idle ((D.kind managed.now).ended before frame.now)) sink.new) }
         ensures fault { IfErr result (λ fault. (before : List (List ℕ))
-            → D.has_processed self.old.delivery managed.now before
+            → D.has_processed self.old.deliverer managed.now before
             → IsStopped P.taking P.failing P.failures sink.old
             ((D.kind managed.now).channel frame.now)
             (without_idle ((D.kind managed.now).ended before frame.now)) fault sink.new
             × (fault ≡ FlowFault.Memory
             → D.is_incomplete_at_last managed.now (before ++ frame.now ∷ []))) }
     {
-        let (report, found) = self.delivery.deliver(managed, frame, sink)?;
+        let (report, found) = self.deliverer.deliver(managed, frame, sink)?;
         let anomalies = D::count_lines(&mut self.words, found);
         self.so_far.add(frame.len() as u64, report);
         self.so_far.add_anomalies(anomalies);
@@ -104,7 +104,7 @@ impl<'a, 'b, D: Summarised, S: BuildHasher + Copy> FrameSink for Turn<'a, 'b, D,
     ghost took = { λ p start now frames. (now.counting.ghost_name ≡ start.counting.ghost_name)
         × (now.pairing.ghost_name ≡ start.pairing.ghost_name)
         × GoesOn (D.kind p) (HasSummed (D.kind p) (anomalies_by D.lines_of (D.found p))
-        (D.has_processed now.counting.now.delivery p)
+        (D.has_processed now.counting.now.deliverer p)
         (signs_by (D.is_own p) (D.is_long p) (D.begun p))
         now.counting.now.so_far now.counting.now.words now.counting.now.signs)
         start.counting.now.so_far.frames start.pairing.now now.pairing.now frames };
@@ -177,7 +177,7 @@ impl<D: Summarised> Recording<D> {
     /// Nothing was read.
     pub fn begin(alloc: Global, managed: &Managed) -> Recording<D>
         ensures framer { D.Framer.waits result.framer managed.now [] }
-        ensures begun { D.has_processed result.counting.delivery managed.now [] }
+        ensures begun { D.has_processed result.counting.deliverer managed.now [] }
         ensures none { result.counting.so_far ≡ no_counts }
         ensures no_words { result.counting.words ≡ word_counts [] }
         ensures no_signs { result.counting.signs ≡ signs_by (D.is_own managed.now)
@@ -188,7 +188,7 @@ impl<D: Summarised> Recording<D> {
         Recording {
             framer: D::Framer::begin(managed),
             counting: Counting {
-                delivery: D::begin(alloc, managed),
+                deliverer: D::begin(alloc, managed),
                 so_far: Totals::none(),
                 words: WordCounts::none(),
                 signs: Signs::none(),
@@ -201,12 +201,12 @@ impl<D: Summarised> Recording<D> {
     /// What `check` has of the recording, in numbers, where all was read.
     pub fn summary(&self) -> Summary
         requires { (p : Parameters) × (frames : List (List ℕ)) × HasSummed (D.kind p)
-            (anomalies_by D.lines_of (D.found p)) (D.has_processed self.now.counting.delivery p)
+            (anomalies_by D.lines_of (D.found p)) (D.has_processed self.now.counting.deliverer p)
             (signs_by (D.is_own p) (D.is_long p) (D.begun p)) self.now.counting.so_far
             self.now.counting.words self.now.counting.signs frames
             × (length (concat frames) ≤ self.now.octets) }
         ensures { (p : Parameters) (frames : List (List ℕ)) → HasSummed (D.kind p)
-            (anomalies_by D.lines_of (D.found p)) (D.has_processed self.now.counting.delivery p)
+            (anomalies_by D.lines_of (D.found p)) (D.has_processed self.now.counting.deliverer p)
             (signs_by (D.is_own p) (D.is_long p) (D.begun p)) self.now.counting.so_far
             self.now.counting.words self.now.counting.signs frames
             → length (concat frames) ≤ self.now.octets
@@ -218,7 +218,7 @@ impl<D: Summarised> Recording<D> {
         let remainder = self.octets - so_far.octets();
         let mut words = self.counting.words;
         let remainders = words.add(CheckWord::Rest, remainder > 0);
-        let incomplete = count_incomplete(&self.counting.delivery, &mut words);
+        let incomplete = count_incomplete(&self.counting.deliverer, &mut words);
         Summary {
             totals: so_far.with_remainder(remainder, remainders + incomplete),
             words,
@@ -229,23 +229,23 @@ impl<D: Summarised> Recording<D> {
 
 // Counts the lines of what is incomplete at the end of a recording, by their word, and answers how
 // many these are. No number depends on the offset that the lines name.
-fn count_incomplete<D: Summarised>(delivery: &D, words: &mut WordCounts) -> u64
+fn count_incomplete<D: Summarised>(deliverer: &D, words: &mut WordCounts) -> u64
     requires { (p : Parameters) × (frames lines : List (List ℕ))
-        × D.has_processed delivery.now p frames × (words.old ≡ word_counts lines)
+        × D.has_processed deliverer.now p frames × (words.old ≡ word_counts lines)
         × (length lines + length frames < 2 ^ 64) }
     ensures words { (p : Parameters) (offset : ℕ) (frames lines : List (List ℕ)) → offset < 2 ^ 64
-        → D.has_processed delivery.now p frames → words.old ≡ word_counts lines
+        → D.has_processed deliverer.now p frames → words.old ≡ word_counts lines
         → words.new ≡ word_counts (lines ++ flat_map (D.open_at p offset frames)
         (D.kind p).channels) }
     ensures number { (p : Parameters) (offset : ℕ) (frames : List (List ℕ)) → offset < 2 ^ 64
-        → D.has_processed delivery.now p frames
+        → D.has_processed deliverer.now p frames
         → result ≡ length (flat_map (D.open_at p offset frames) (D.kind p).channels) }
     ensures few { (p : Parameters) (frames : List (List ℕ))
-        → D.has_processed delivery.now p frames → result ≤ length frames }
+        → D.has_processed deliverer.now p frames → result ≤ length frames }
 {
     let mut number = 0;
-    for channel in 0..delivery.open_below() {
-        number += words.add(CheckWord::Open, delivery.is_incomplete(channel));
+    for channel in 0..deliverer.open_below() {
+        number += words.add(CheckWord::Open, deliverer.is_incomplete(channel));
     }
     number
 }
@@ -263,21 +263,21 @@ pub fn read_turn<D: Summarised, R: Read, S: BuildHasher + Copy>(
     requires ready { (begun : Counted R) × (so_far : List ℕ)
         × IsReadSoFar R.remaining D.Framer.is_frame D.Framer.waits D.Framer.frames_of
         (HasSummed (D.kind managed.now) (anomalies_by D.lines_of (D.found managed.now))
-        (D.has_processed recording.old.counting.delivery managed.now)
+        (D.has_processed recording.old.counting.deliverer managed.now)
         (signs_by (D.is_own managed.now) (D.is_long managed.now) (D.begun managed.now))
         recording.old.counting.so_far recording.old.counting.words recording.old.counting.signs)
         managed.now begun reader.old recording.old.framer recording.old.octets so_far }
     ensures paired { OnOk result ((begun : Counted R) (so_far : List ℕ)
         → IsReadSoFar R.remaining D.Framer.is_frame D.Framer.waits D.Framer.frames_of
         (HasSummed (D.kind managed.now) (anomalies_by D.lines_of (D.found managed.now))
-        (D.has_processed recording.old.counting.delivery managed.now)
+        (D.has_processed recording.old.counting.deliverer managed.now)
         (signs_by (D.is_own managed.now) (D.is_long managed.now) (D.begun managed.now))
         recording.old.counting.so_far recording.old.counting.words recording.old.counting.signs)
         managed.now begun reader.old recording.old.framer recording.old.octets so_far
         → (chunk : List ℕ)
         × IsReadSoFar R.remaining D.Framer.is_frame D.Framer.waits D.Framer.frames_of
         (HasSummed (D.kind managed.now) (anomalies_by D.lines_of (D.found managed.now))
-        (D.has_processed recording.new.counting.delivery managed.now)
+        (D.has_processed recording.new.counting.deliverer managed.now)
         (signs_by (D.is_own managed.now) (D.is_long managed.now) (D.begun managed.now))
         recording.new.counting.so_far recording.new.counting.words recording.new.counting.signs)
         managed.now begun reader.new recording.new.framer recording.new.octets (so_far ++ chunk)
@@ -293,7 +293,7 @@ pub fn read_turn<D: Summarised, R: Read, S: BuildHasher + Copy>(
     ensures fault { IfErr result (λ fault. (begun : Counted R) (so_far : List ℕ)
         → IsReadSoFar R.remaining D.Framer.is_frame D.Framer.waits D.Framer.frames_of
         (HasSummed (D.kind managed.now) (anomalies_by D.lines_of (D.found managed.now))
-        (D.has_processed recording.old.counting.delivery managed.now)
+        (D.has_processed recording.old.counting.deliverer managed.now)
         (signs_by (D.is_own managed.now) (D.is_long managed.now) (D.begun managed.now))
         recording.old.counting.so_far recording.old.counting.words recording.old.counting.signs)
         managed.now begun reader.old recording.old.framer recording.old.octets so_far

@@ -57,18 +57,18 @@ impl Printed for Receiver {
 /// Lists the packets that end in the frames.
 #[derive(Drop)]
 pub struct ListPackets<D: Printed> {
-    delivery: D,
+    deliverer: D,
     so_far: Totals,
 }
 
 impl<D: Printed> ListPackets<D> {
     /// No packets yet. In the clauses 0 is the number of anomalies: `packets` counts none.
     pub fn begin(alloc: Global, managed: &Managed) -> ListPackets<D>
-        ensures { HasDelivered (D.kind managed.now) (D.has_processed result.delivery managed.now)
+        ensures { HasDelivered (D.kind managed.now) (D.has_processed result.deliverer managed.now)
             [] 0 result.so_far }
     {
         ListPackets {
-            delivery: D::begin(alloc, managed),
+            deliverer: D::begin(alloc, managed),
             so_far: Totals::none(),
         }
     }
@@ -82,7 +82,7 @@ impl<D: Printed> Verb for ListPackets<D> {
 
     ghost listing = { λ p. packets_listing (D.kind p) (D.lines p) };
 
-    ghost has_listed = { λ verb p frames. HasDelivered (D.kind p) (D.has_processed verb.delivery p)
+    ghost has_listed = { λ verb p frames. HasDelivered (D.kind p) (D.has_processed verb.deliverer p)
         frames 0 verb.so_far };
 
     ghost may_refuse_memory = { D.is_incomplete_at_last };
@@ -93,7 +93,7 @@ impl<D: Printed> Verb for ListPackets<D> {
             kind: D::channel_kind(),
             failures: 0,
         };
-        let (report, _) = self.delivery.deliver(managed, frame, &mut printer)?;
+        let (report, _) = self.deliverer.deliver(managed, frame, &mut printer)?;
         self.so_far.add(frame.len() as u64, report);
         Ok(())
     }

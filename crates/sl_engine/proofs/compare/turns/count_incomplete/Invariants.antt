@@ -6,6 +6,6 @@ use Rattle.sl_engine.proofs.compare.turns.count_incomplete.Given as goal
 
 abbrev pub invariant-loop-channel : goal.invariant-loop-channel
 invariant-loop-channel g l =
-    ((p : Parameters) (offset : ℕ) (frames lines : List (List ℕ)) → offset < 2 ^ 64 → g.D.Followed.has_processed l.delivery p frames → l.fn.words ≡ word_counts lines
+    ((p : Parameters) (offset : ℕ) (frames lines : List (List ℕ)) → offset < 2 ^ 64 → g.D.Followed.has_processed l.deliverer p frames → l.fn.words ≡ word_counts lines
     → HasCounted (g.D.Checked.open_at p offset frames) (g.D.Followed.kind p) lines l.words l.channel l.number)
     × (l.number ≤ l.channel)

@@ -83,7 +83,8 @@ pub trait Deliverer: Followed {
             → Self.has_processed self.old managed.now before
             → IsStopped S.taking S.failing S.failures sink.old
             ((Self.kind managed.now).channel frame.now)
-            (without_idle ((Self.kind managed.now).ended before frame.now)) fault sink.new) }
+            (without_idle ((Self.kind managed.now).packets_ended_by before frame.now)) fault
+            sink.new) }
         // The fault is `Memory` only where something is incomplete. A sink that is refused memory
         // has another fault.
         ensures memory { IfErr result (λ fault. (before : List (List ℕ))

@@ -21,7 +21,7 @@ pub record Kind : Type 0 where
   -- the channel of the packets that end in a frame
   pub channel : List ℕ → ℕ
   -- the packets that end in a frame that comes after others, idle ones included
-  pub ended : List (List ℕ) → List ℕ → List (List ℕ)
+  pub packets_ended_by : List (List ℕ) → List ℕ → List (List ℕ)
   -- the packets that frames deliver on a channel, idle ones included
   pub packets : List (List ℕ) → ℕ → List (List ℕ)
 
@@ -65,7 +65,7 @@ counts_in k frames remainder =
 pub record AddsByChannel (k : Kind) : Type 0 where
   pub none : (channel : ℕ) → k.packets [] channel ≡ []
   pub own : (frames : List (List ℕ)) (frame : List ℕ) → k.packets (frames ++ frame ∷ []) (k.channel frame)
-      ≡ k.packets frames (k.channel frame) ++ k.ended frames frame
+      ≡ k.packets frames (k.channel frame) ++ k.packets_ended_by frames frame
   pub other : (frames : List (List ℕ)) (frame : List ℕ) (channel : ℕ) → k.channel frame ≢ channel
       → k.packets (frames ++ frame ∷ []) channel ≡ k.packets frames channel
   pub inside : (frame : List ℕ) → k.channel frame < k.channel_limit
@@ -83,8 +83,8 @@ pub record IsWithin (k : Kind) (frames : List (List ℕ)) : Type 0 where
 -- the report on a frame that comes after these frames
 pub record IsFrameReport (k : Kind) (before : List (List ℕ)) (frame : List ℕ) (report : FrameReport) : Type 0 where
   pub skipped : report.is_skipped ≡ k.is_skipped frame
-  pub packets : report.packets ≡ length (without_idle (k.ended before frame))
-  pub idle : report.idle ≡ length (only_idle (k.ended before frame))
+  pub packets : report.packets ≡ length (without_idle (k.packets_ended_by before frame))
+  pub idle : report.idle ≡ length (only_idle (k.packets_ended_by before frame))
 
 -- What a frame brings: a report on it. The frame has five octets or more, as each frame that a framer cuts. So it has
 -- more octets than `check` has lines for it.
@@ -95,7 +95,7 @@ pub record Brings (k : Kind) (before : List (List ℕ)) (frame : List ℕ) (repo
 -- the packets of a frame were handed over, idle packets left out
 pub record Delivers {S : Type 0} (taking : S → ℕ → List ℕ → S → Type 0) (k : Kind) (before : List (List ℕ))
     (frame : List ℕ) (old : S) (report : FrameReport) (new : S) : Type 0 where
-  pub accepted : TakesAll taking old (k.channel frame) (without_idle (k.ended before frame)) new
+  pub accepted : TakesAll taking old (k.channel frame) (without_idle (k.packets_ended_by before frame)) new
   pub brings : Brings k before frame report
 
 -- These frames were processed (`had` holds of them: the state is the one after them), and these are their counts, with

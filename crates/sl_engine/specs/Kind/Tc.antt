@@ -82,7 +82,8 @@ tc_kind p =
       channels = map_channels;
       channel_limit = channel_count;
       channel = λ frame. unit_channel_of (reception_of p) (as_read p frame);
-      ended = λ before frame. ended_in (reception_of p) (views_of (tc_format p) p.spacecraft before) (as_read p frame);
+      packets_ended_by = λ before frame.
+          ended_in (reception_of p) (views_of (tc_format p) p.spacecraft before) (as_read p frame);
       packets = λ frames channel.
           packets_of_channel (reception_of p) (views_of (tc_format p) p.spacecraft frames) channel;
     }

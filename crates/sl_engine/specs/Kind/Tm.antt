@@ -72,7 +72,7 @@ tm_kind p =
       channels = virtual_channels;
       channel_limit = 8;
       channel = λ frame. vc_of (as_read p frame);
-      ended = λ before frame. ended_in (views_of (tm_format p) p.spacecraft before) (as_read p frame);
+      packets_ended_by = λ before frame. ended_in (views_of (tm_format p) p.spacecraft before) (as_read p frame);
       packets = λ frames vc. packets_of_channel (views_of (tm_format p) p.spacecraft frames) vc;
     }
 

@@ -63,12 +63,12 @@ impl<D: Summarised> Counting<D> {
             (signs_by (D.is_own managed.now) (D.is_long managed.now) (D.begun managed.now))
             self.new.so_far self.new.words self.new.signs (before ++ frame.now ∷ [])
             × TakesAll P.taking sink.old ((D.kind managed.now).channel frame.now)
-            (without_idle ((D.kind managed.now).ended before frame.now)) sink.new) }
+            (without_idle ((D.kind managed.now).packets_ended_by before frame.now)) sink.new) }
         ensures fault { IfErr result (λ fault. (before : List (List ℕ))
             → D.has_processed self.old.deliverer managed.now before
             → IsStopped P.taking P.failing P.failures sink.old
             ((D.kind managed.now).channel frame.now)
-            (without_idle ((D.kind managed.now).ended before frame.now)) fault sink.new
+            (without_idle ((D.kind managed.now).packets_ended_by before frame.now)) fault sink.new
             × (fault ≡ FlowFault.Memory
             → D.is_incomplete_at_last managed.now (before ++ frame.now ∷ []))) }
     {

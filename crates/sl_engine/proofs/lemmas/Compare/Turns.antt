@@ -30,7 +30,7 @@ more_next own channel packet packets c = grind (arith, append_assoc)
 
 -- a frame adds the packets that end in it
 frame_more : {k : Kind} → AddsByChannel k → (before : List (List ℕ)) (frame : List ℕ) (c : ℕ)
-    → with_more (packets_on k before) (k.channel frame) (without_idle (k.ended before frame)) c ≡ packets_on k (before ++ frame ∷ []) c
+    → with_more (packets_on k before) (k.channel frame) (without_idle (k.packets_ended_by before frame)) c ≡ packets_on k (before ++ frame ∷ []) c
 frame_more laws before frame c = grind (arith, eqb_tells, laws.own, laws.other, without_idle-append)
 
 -- the frames of a recording of which more is read begin with those that it had
@@ -78,11 +78,11 @@ module _ {S T : Type 0} {b : builder.Ghosts S T} {h : hasher.Ghosts T} where
 
     -- one frame more
     pub turn_goes_on : {counted counted' : List (List ℕ) → Type 0} {mid new : Pairing S T b h} (before : List (List ℕ)) (frame : List ℕ) → AddsByChannel k
-        → GoesOn k counted n old mid before → counted' (before ++ frame ∷ []) → TakesAll TakesPacket mid (k.channel frame) (without_idle (k.ended before frame)) new
+        → GoesOn k counted n old mid before → counted' (before ++ frame ∷ []) → TakesAll TakesPacket mid (k.channel frame) (without_idle (k.packets_ended_by before frame)) new
         → GoesOn k counted' n old new (before ++ frame ∷ [])
     turn_goes_on {mid = mid} {new = new} before frame laws g d t =
-        let took = takes_all (without_idle (k.ended before frame)) mid new (k.channel frame) t in
-        let same : (c : ℕ) → with_more (packets_on k before) (k.channel frame) (without_idle (k.ended before frame)) c ≡ packets_on k (before ++ frame ∷ []) c
+        let took = takes_all (without_idle (k.packets_ended_by before frame)) mid new (k.channel frame) t in
+        let same : (c : ℕ) → with_more (packets_on k before) (k.channel frame) (without_idle (k.packets_ended_by before frame)) c ≡ packets_on k (before ++ frame ∷ []) c
         = λ c. frame_more laws before frame c in
         record {
           delivered = d;

@@ -53,17 +53,17 @@ module _ (k : Kind) (laws : AddsByChannel k) where
   passing test frames channel = filter test (k.packets frames channel)
 
   count_more : (test : List ℕ → Bool) (frames : List (List ℕ)) (frame : List ℕ)
-      → count_of (map (passing test (frames ++ frame ∷ [])) k.channels) ≡ count_of (map (passing test frames) k.channels) + length (filter test (k.ended frames frame))
+      → count_of (map (passing test (frames ++ frame ∷ [])) k.channels) ≡ count_of (map (passing test frames) k.channels) + length (filter test (k.packets_ended_by frames frame))
   count_more test frames frame =
       let at = k.channel frame in
       let change = items_change k.channel_limit k.channels laws.all (passing test frames) (passing test (frames ++ frame ∷ [])) at (laws.inside frame)
       (λ i other. ap (λ l. length (filter test l)) (laws.other frames frame i (λ e. other (sym e)))) in
       omega (arith, change, simp (filter-append, length-append) at (ap (λ l. length (filter test l)) (laws.own frames frame)))
 
-  pub packets_more : (frames : List (List ℕ)) (frame : List ℕ) → number_of_packets k (frames ++ frame ∷ []) ≡ number_of_packets k frames + length (without_idle (k.ended frames frame))
+  pub packets_more : (frames : List (List ℕ)) (frame : List ℕ) → number_of_packets k (frames ++ frame ∷ []) ≡ number_of_packets k frames + length (without_idle (k.packets_ended_by frames frame))
   packets_more = count_more (λ packet. not (is_idle_packet packet))
 
-  pub idle_more : (frames : List (List ℕ)) (frame : List ℕ) → number_of_idle k (frames ++ frame ∷ []) ≡ number_of_idle k frames + length (only_idle (k.ended frames frame))
+  pub idle_more : (frames : List (List ℕ)) (frame : List ℕ) → number_of_idle k (frames ++ frame ∷ []) ≡ number_of_idle k frames + length (only_idle (k.packets_ended_by frames frame))
   idle_more = count_more is_idle_packet
 
   pub no_packets : number_of_packets k [] ≡ 0
@@ -113,13 +113,13 @@ module _ (k : Kind) (laws : AddsByChannel k) where
     fits_more w = rw d.counts (omega (arith, w.within, r.packets, r.idle, packets_more before frame, idle_more before frame, octets_more before frame))
 
 -- what a frame brings, by the packets that end in it,
-pub brings_as : {k : Kind} {before : List (List ℕ)} {frame : List ℕ} {report : FrameReport} {ended : List (List ℕ)} {skips : Bool} → k.ended before frame ≡ ended → k.is_skipped frame ≡ skips → 5 ≤ length frame
+pub brings_as : {k : Kind} {before : List (List ℕ)} {frame : List ℕ} {report : FrameReport} {ended : List (List ℕ)} {skips : Bool} → k.packets_ended_by before frame ≡ ended → k.is_skipped frame ≡ skips → 5 ≤ length frame
     → report.is_skipped ≡ skips → report.packets ≡ length (without_idle ended) → report.idle ≡ length (only_idle ended) → Brings k before frame report
 brings_as ends skipping some skipped packets idle = grind arith
 
 -- and by their channel too, where they are delivered
 pub delivers_as : {S : Type 0} {taking : S → ℕ → List ℕ → S → Type 0} {k : Kind} {before : List (List ℕ)} {frame : List ℕ} {old new : S} {report : FrameReport}
-    {channel : ℕ} {ended : List (List ℕ)} {skips : Bool} → k.channel frame ≡ channel → k.ended before frame ≡ ended → k.is_skipped frame ≡ skips → 5 ≤ length frame
+    {channel : ℕ} {ended : List (List ℕ)} {skips : Bool} → k.channel frame ≡ channel → k.packets_ended_by before frame ≡ ended → k.is_skipped frame ≡ skips → 5 ≤ length frame
     → TakesAll taking old channel (without_idle ended) new → report.is_skipped ≡ skips → report.packets ≡ length (without_idle ended) → report.idle ≡ length (only_idle ended)
     → Delivers taking k before frame old report new
 delivers_as at ends skipping some accepted skipped packets idle = grind arith
@@ -139,7 +139,7 @@ module _ (k : Kind) (laws : AddsByChannel k) where
 
   -- one frame more
   pub stored_more : (frames : List (List ℕ)) (frame : List ℕ) (old new : PacketLists) → AreStored k frames old.lists
-      → TakesAll AddsPacket old (k.channel frame) (without_idle (k.ended frames frame)) new → AreStored k (frames ++ frame ∷ []) new.lists
+      → TakesAll AddsPacket old (k.channel frame) (without_idle (k.packets_ended_by frames frame)) new → AreStored k (frames ++ frame ∷ []) new.lists
   stored_more frames frame old new stored taken = grind (arith, eqb_tells, get_or-set_other, get_or-set_same, length-set, takes_all, without_idle-append, stored.each, stored.none_past, stored.size, laws.few, laws.inside, laws.other)
 
   module _ (frames : List (List ℕ)) (lists : List (List (List ℕ))) (stored : AreStored k frames lists) where

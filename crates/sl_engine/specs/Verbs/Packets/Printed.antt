@@ -22,4 +22,4 @@ lines_on names channel packets = concat (map (packet_line (channel_name names ch
 -- `names` says how a line names its channel
 abbrev pub ArePrinted : Kind → ChannelKind → (List (List ℕ) → List ℕ → List ℕ) → Type 0
 ArePrinted k names lines = (before : List (List ℕ)) (frame : List ℕ)
-    → lines before frame ≡ lines_on names (k.channel frame) (without_idle (k.ended before frame))
+    → lines before frame ≡ lines_on names (k.channel frame) (without_idle (k.packets_ended_by before frame))

@@ -59,7 +59,7 @@ lines_at kind channel (packet ∷ packets) = ap (λ l. line_of (channel_name kin
 module _ (k : Kind) where
   -- the packets that end in frames which come after others
   abbrev listed_in : List (List ℕ) → List ℕ → List ListedPacket
-  listed_in before frame = listed_at (k.channel frame) (without_idle (k.ended before frame))
+  listed_in before frame = listed_at (k.channel frame) (without_idle (k.packets_ended_by before frame))
 
   abbrev listed_from : List (List ℕ) → List (List ℕ) → List ListedPacket
   listed_from before [] = []
@@ -69,7 +69,7 @@ module _ (k : Kind) where
     lines_are : (before frames : List (List ℕ)) → lines_from lines before frames ≡ concat (map (line_of (channel_name kind)) (listed_from before frames))
     lines_are before [] = refl
     lines_are before (frame ∷ frames) =
-        rw (printed before frame, lines_at kind (k.channel frame) (without_idle (k.ended before frame)), lines_are (before ++ frame ∷ []) frames, map-append, concat-append) refl
+        rw (printed before frame, lines_at kind (k.channel frame) (without_idle (k.packets_ended_by before frame)), lines_are (before ++ frame ∷ []) frames, map-append, concat-append) refl
 
   module _ (laws : AddsByChannel k) where
     abbrev on : List (List ℕ) → ℕ → List (List ℕ)

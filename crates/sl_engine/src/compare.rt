@@ -25,7 +25,7 @@ mod words;
 
 use crate::framing::CHUNK_SIZE;
 use crate::link::managed::Managed;
-use crate::verbs::packets::printer::ChannelKind;
+use crate::verbs::packets::printer::ChannelName;
 pub use signs::Signs;
 use sl_io::{Counted, LinkFault};
 use sl_pair::{Answer, Pairing, Station};
@@ -144,7 +144,7 @@ pub fn write_difference_tm<S: BuildHasher + Copy, W: Write>(
         → StopsWriting W.contents writer.old writer.new
         (difference_text each tm_channel_name firsts seconds 8) ⊤ fault) }
 {
-    write_left(&compared.left, ChannelKind::VirtualChannel, 8, each, writer)
+    write_left(&compared.left, ChannelName::VirtualChannel, 8, each, writer)
 }
 
 /// Writes what only one of two recordings of TC transfer frames delivers, by virtual channel and
@@ -167,7 +167,7 @@ pub fn write_difference_tc<S: BuildHasher + Copy, W: Write>(
         → StopsWriting W.contents writer.old writer.new
         (difference_text each tc_channel_name firsts seconds 4096) ⊤ fault) }
 {
-    write_left(&compared.left, ChannelKind::Map, 4096, each, writer)
+    write_left(&compared.left, ChannelName::Map, 4096, each, writer)
 }
 
 // Reads two recordings to their ends, in turns, and answers which packets only one of them

@@ -14,7 +14,7 @@ ghost use Rattle.sl_engine.specs.Verbs.Packets.Printed.{channel_name};
 use crate::io::lines::Lines;
 use crate::io::output::{Output, Written};
 use crate::verbs::packets::lines::push_packet_text;
-use crate::verbs::packets::printer::{ChannelKind, push_channel};
+use crate::verbs::packets::printer::{ChannelName, push_channel};
 use sl_io::{Counted, LinkFault};
 use sl_pair::{Left, Pairing, Station, first_run};
 use std::hash::BuildHasher;
@@ -24,7 +24,7 @@ use std::io::Write;
 /// for each run of packets.
 pub fn write_left<S: BuildHasher + Copy, W: Write>(
     left: &Pairing<S>,
-    names: ChannelKind,
+    names: ChannelName,
     channels: u16,
     each: bool,
     writer: &mut Counted<W>,
@@ -47,7 +47,7 @@ pub fn write_left<S: BuildHasher + Copy, W: Write>(
 fn write_channels<S: BuildHasher + Copy, W: Write>(
     out: &mut Output<W>,
     left: &Pairing<S>,
-    names: ChannelKind,
+    names: ChannelName,
     channels: u16,
     each: bool,
 ) -> Written
@@ -71,7 +71,7 @@ fn write_channels<S: BuildHasher + Copy, W: Write>(
 fn write_channel<S: BuildHasher + Copy, W: Write>(
     out: &mut Output<W>,
     left: &Pairing<S>,
-    names: ChannelKind,
+    names: ChannelName,
     channel: u16,
     each: bool,
 ) -> Written
@@ -92,7 +92,7 @@ fn write_channel<S: BuildHasher + Copy, W: Write>(
 fn write_station<S: BuildHasher + Copy, W: Write>(
     out: &mut Output<W>,
     left: &Pairing<S>,
-    names: ChannelKind,
+    names: ChannelName,
     channel: u16,
     station: Station,
     each: bool,
@@ -118,7 +118,7 @@ fn write_station<S: BuildHasher + Copy, W: Write>(
 // Adds the lines of packets on a channel, a line for each run.
 fn write_runs<W: Write>(
     out: &mut Output<W>,
-    names: ChannelKind,
+    names: ChannelName,
     channel: u16,
     station: Station,
     left: &[Left],
@@ -143,7 +143,7 @@ fn write_runs<W: Write>(
 // Adds the lines of packets on a channel, each as `packets` lists it.
 fn write_packets<W: Write>(
     out: &mut Output<W>,
-    names: ChannelKind,
+    names: ChannelName,
     channel: u16,
     station: Station,
     left: &[Left],
@@ -165,7 +165,7 @@ fn write_packets<W: Write>(
 // Adds the line of a packet.
 fn write_packet<W: Write>(
     out: &mut Output<W>,
-    names: ChannelKind,
+    names: ChannelName,
     channel: u16,
     station: Station,
     one: &Left,
@@ -185,7 +185,7 @@ fn write_packet<W: Write>(
 }
 
 // Adds the line of a run.
-fn push_run(lines: &mut Lines, names: ChannelKind, channel: u16, station: Station, run: &[Left])
+fn push_run(lines: &mut Lines, names: ChannelName, channel: u16, station: Station, run: &[Left])
     requires some { 0 < length run.now }
     requires room { HasRoom lines.old }
     ensures { lines.new ≡ lines.old ++ run_line station (channel_name names channel) run.now }

@@ -10,7 +10,7 @@ use crate::kind::Deliverer;
 use crate::link::managed::Managed;
 use crate::link::totals::Totals;
 use crate::verbs::Verb;
-use crate::verbs::packets::printer::{ChannelKind, Printer};
+use crate::verbs::packets::printer::{ChannelName, Printer};
 use sl_io::LinkFault;
 use sl_tcflow::Receiver;
 use sl_tmflow::Extractor;
@@ -26,7 +26,7 @@ pub trait Printed: Deliverer {
     ghost lines: { Parameters → List (List ℕ) → List ℕ → List ℕ };
 
     /// How a line names the channel of its packet.
-    fn channel_kind() -> ChannelKind
+    fn channel_name() -> ChannelName
         // With channels named so, `lines` are those of the packets that end in the frame, idle ones
         // left out.
         ensures { (p : Parameters) → ArePrinted (Self.kind p) result (lines p) };
@@ -38,8 +38,8 @@ impl Printed for Extractor {
     ghost lines = { packets_tm_lines };
 
     #[tactic(auto, using(crate::proofs::lemmas::Verbs::Packets::Printed::tm_printed))]
-    fn channel_kind() -> ChannelKind {
-        ChannelKind::VirtualChannel
+    fn channel_name() -> ChannelName {
+        ChannelName::VirtualChannel
     }
 }
 
@@ -49,8 +49,8 @@ impl Printed for Receiver {
     ghost lines = { packets_tc_lines };
 
     #[tactic(auto, using(crate::proofs::lemmas::Verbs::Packets::Printed::tc_printed))]
-    fn channel_kind() -> ChannelKind {
-        ChannelKind::Map
+    fn channel_name() -> ChannelName {
+        ChannelName::Map
     }
 }
 
@@ -90,7 +90,7 @@ impl<D: Printed> Verb for ListPackets<D> {
     fn frame<W: Write>(&mut self, managed: &Managed, frame: &[u8], out: &mut Output<W>) -> Written {
         let mut printer = Printer {
             out,
-            kind: D::channel_kind(),
+            names: D::channel_name(),
             failures: 0,
         };
         let (report, _) = self.deliverer.deliver(managed, frame, &mut printer)?;

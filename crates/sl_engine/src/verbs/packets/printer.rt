@@ -16,7 +16,7 @@ use std::io::Write;
 
 /// How a line names the channel of its packet: by the virtual channel alone, or with the MAP.
 #[derive(Clone, Copy)]
-pub enum ChannelKind {
+pub enum ChannelName {
     VirtualChannel,
     Map,
 }
@@ -25,7 +25,7 @@ pub enum ChannelKind {
 #[derive(Drop)]
 pub struct Printer<'a, 'b, W: Write> {
     pub out: &'a mut Output<'b, W>,
-    pub kind: ChannelKind,
+    pub names: ChannelName,
     // How many packets couldn't be printed, 2^64 - 1 at most. `PacketSink` wants this count; no
     // call reads it.
     pub failures: u64,
@@ -40,19 +40,19 @@ impl<'a, 'b, W: Write> PacketSink for Printer<'a, 'b, W> {
     ghost use Rattle.sl_engine.specs.Io.Streams.{StopsWriting};
     ghost use Rattle.sl_io.specs.declared.fault.LinkFault.TheVariants.{Write};
 
-    ghost taking = { λ old channel packet new. (new.kind ≡ old.kind)
+    ghost taking = { λ old channel packet new. (new.names ≡ old.names)
         × (new.out.ghost_name ≡ old.out.ghost_name) × Adds W.contents old.out.now
-        (packet_line (channel_name old.kind channel) packet) new.out.now };
+        (packet_line (channel_name old.names channel) packet) new.out.now };
 
     ghost failing = { λ old channel packet fault new. (fault ≡ Device)
         × (new.out.ghost_name ≡ old.out.ghost_name) × KeepsWriter old.out.now new.out.now
         × StopsWriting W.contents old.out.now.writer.now new.out.now.writer.now
-        (old.out.now.lines ++ packet_line (channel_name old.kind channel) packet) ⊥ Write };
+        (old.out.now.lines ++ packet_line (channel_name old.names channel) packet) ⊥ Write };
 
     ghost failures = { λ printer. printer.failures };
 
     fn packet(&mut self, channel: u16, p: &[u8]) -> Result<(), SinkFault> {
-        match print_packet(self.out, self.kind, channel, p) {
+        match print_packet(self.out, self.names, channel, p) {
             Ok(()) => Ok(()),
             Err(_) => {
                 self.failures = self.failures.saturating_add(1);
@@ -65,19 +65,19 @@ impl<'a, 'b, W: Write> PacketSink for Printer<'a, 'b, W> {
 // Adds the line of a packet on a channel.
 fn print_packet<W: Write>(
     out: &mut Output<W>,
-    kind: ChannelKind,
+    names: ChannelName,
     channel: u16,
     packet: &[u8],
 ) -> Written
     requires packet { IsPacket packet.now }
     ensures line { OnOk result (Adds W.contents out.old
-        (packet_line (channel_name kind channel) packet.now) out.new) }
+        (packet_line (channel_name names channel) packet.now) out.new) }
     ensures lent { OnErr result (KeepsWriter out.old out.new) }
     ensures fault { IfErr result (StopsWriting W.contents out.old.writer.now out.new.writer.now
-        (out.old.lines ++ packet_line (channel_name kind channel) packet.now) ⊥) }
+        (out.old.lines ++ packet_line (channel_name names channel) packet.now) ⊥) }
 {
     out.make_room()?;
-    push_channel(&mut out.lines, kind, channel);
+    push_channel(&mut out.lines, names, channel);
     // After this call the whole line was added; or, at a fault, a prefix of the waiting lines and
     // this one was written. (With `?` the exit at a fault has a name, which the answers use.)
     push_packet_text(out, packet)?;
@@ -85,18 +85,18 @@ fn print_packet<W: Write>(
 }
 
 /// Adds the name of a channel.
-pub fn push_channel(lines: &mut Lines, kind: ChannelKind, channel: u16)
+pub fn push_channel(lines: &mut Lines, names: ChannelName, channel: u16)
     requires { HasRoomFor part_width lines.old }
-    ensures text { lines.new ≡ lines.old ++ channel_name kind channel }
+    ensures text { lines.new ≡ lines.old ++ channel_name names channel }
     ensures short { length lines.new ≤ length lines.old + fields_width }
 {
-    match kind {
-        ChannelKind::VirtualChannel => {
+    match names {
+        ChannelName::VirtualChannel => {
             lines.push(b"vc ");
             lines.push_number(u64::from(channel));
         }
         // The number of a channel with a MAP is 64 VC + MAP.
-        ChannelKind::Map => push_map(lines, channel / 64, channel % 64),
+        ChannelName::Map => push_map(lines, channel / 64, channel % 64),
     }
 }
 

@@ -16,12 +16,12 @@ use Rattle.sl_tmflow.specs.VirtualChannel.{views_of}
 use Rattle.sl_tcflow.specs.AcceptedUnit as accepted
 use Rattle.sl_tcflow.specs.ReceptionParameters.{ReceptionParameters}
 use Rattle.sl_tcflow.proofs.lemmas.Reception.Channel.{small_map}
-use Rattle.sl_engine.specs.declared.verbs.packets.printer.ChannelKind.{ChannelKind}
+use Rattle.sl_engine.specs.declared.verbs.packets.printer.ChannelName.{ChannelName}
 use Rattle.sl_engine.specs.Kind.Delivery.{AddsByChannel, Kind, delivered_packets, packets_by_channel}
 use Rattle.sl_link.specs.Laws.Listed.{ListedPacket, ListsPackets, line_of, packets_listed_on, TmPacketsAreListed, TcPacketsAreListed}
 use Rattle.sl_engine.specs.Verbs.Packets.Printed.{ArePrinted, channel_name, lines_on}
 use Rattle.sl_engine.specs.Verbs.Listing.{lines_from, listing_text}
-use Rattle.sl_engine.specs.declared.verbs.packets.printer.ChannelKind.TheVariants.{VirtualChannel, Map}
+use Rattle.sl_engine.specs.declared.verbs.packets.printer.ChannelName.TheVariants.{VirtualChannel, Map}
 use Rattle.sl_engine.specs.Kind.Tc as tc_deliver
 use Rattle.sl_engine.specs.Kind.Tm as tm_deliver
 use Rattle.sl_engine.specs.Kind.Tc.{unit_channel_of, tc_kind}
@@ -52,9 +52,9 @@ listed-append : (channel : ℕ) (xs ys : List ListedPacket) → packets_listed_o
 listed-append channel xs ys = simp (filter-append, map-append)
 
 -- their lines
-lines_at : (kind : ChannelKind) (channel : ℕ) (packets : List (List ℕ)) → lines_on kind channel packets ≡ concat (map (line_of (channel_name kind)) (listed_at channel packets))
-lines_at kind channel [] = refl
-lines_at kind channel (packet ∷ packets) = ap (λ l. line_of (channel_name kind) (record { channel = channel; packet = packet }) ++ l) (lines_at kind channel packets)
+lines_at : (names : ChannelName) (channel : ℕ) (packets : List (List ℕ)) → lines_on names channel packets ≡ concat (map (line_of (channel_name names)) (listed_at channel packets))
+lines_at names channel [] = refl
+lines_at names channel (packet ∷ packets) = ap (λ l. line_of (channel_name names) (record { channel = channel; packet = packet }) ++ l) (lines_at names channel packets)
 
 module _ (k : Kind) where
   -- the packets that end in frames which come after others
@@ -65,11 +65,11 @@ module _ (k : Kind) where
   listed_from before [] = []
   listed_from before (frame ∷ frames) = listed_in before frame ++ listed_from (before ++ frame ∷ []) frames
 
-  module _ (kind : ChannelKind) (lines : List (List ℕ) → List ℕ → List ℕ) (printed : ArePrinted k kind lines) where
-    lines_are : (before frames : List (List ℕ)) → lines_from lines before frames ≡ concat (map (line_of (channel_name kind)) (listed_from before frames))
+  module _ (names : ChannelName) (lines : List (List ℕ) → List ℕ → List ℕ) (printed : ArePrinted k names lines) where
+    lines_are : (before frames : List (List ℕ)) → lines_from lines before frames ≡ concat (map (line_of (channel_name names)) (listed_from before frames))
     lines_are before [] = refl
     lines_are before (frame ∷ frames) =
-        rw (printed before frame, lines_at kind (k.channel frame) (without_idle (k.packets_ended_by before frame)), lines_are (before ++ frame ∷ []) frames, map-append, concat-append) refl
+        rw (printed before frame, lines_at names (k.channel frame) (without_idle (k.packets_ended_by before frame)), lines_are (before ++ frame ∷ []) frames, map-append, concat-append) refl
 
   module _ (laws : AddsByChannel k) where
     abbrev on : List (List ℕ) → ℕ → List (List ℕ)
@@ -101,11 +101,11 @@ module _ (k : Kind) where
     ])
 
     -- So, of a whole recording, each list has its channel's packets.
-    pub packets_are_listed : (kind : ChannelKind) (lines : List (List ℕ) → List ℕ → List ℕ) → ArePrinted k kind lines → (recording : List ℕ)
-        → ListsPackets (channel_name kind) (packets_by_channel k recording) (listing_text k.frames_of (packets_listing k lines) recording)
-    packets_are_listed kind lines printed recording =
+    pub packets_are_listed : (names : ChannelName) (lines : List (List ℕ) → List ℕ → List ℕ) → ArePrinted k names lines → (recording : List ℕ)
+        → ListsPackets (channel_name names) (packets_by_channel k recording) (listing_text k.frames_of (packets_listing k lines) recording)
+    packets_are_listed names lines printed recording =
         let frames = k.frames_of recording in
-        record { listed = listed_from [] frames; lines = append-nil (lines_from lines [] frames) ∙ lines_are kind lines printed [] frames; each = each_listed frames }
+        record { listed = listed_from [] frames; lines = append-nil (lines_from lines [] frames) ∙ lines_are names lines printed [] frames; each = each_listed frames }
 
 -- ---- TM
 

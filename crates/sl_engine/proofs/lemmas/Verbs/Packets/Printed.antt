@@ -9,7 +9,7 @@ use Rattle.sl_tmflow.specs.VirtualChannel.{views_of}
 use Rattle.sl_tcflow.specs.AcceptedUnit as accepted
 use Rattle.sl_tcflow.specs.ReceptionParameters.{ReceptionParameters}
 use Rattle.sl_tcflow.proofs.lemmas.Reception.Channel.{small_map}
-use Rattle.sl_engine.specs.declared.verbs.packets.printer.ChannelKind.TheVariants.{VirtualChannel, Map}
+use Rattle.sl_engine.specs.declared.verbs.packets.printer.ChannelName.TheVariants.{VirtualChannel, Map}
 use Rattle.sl_engine.specs.Verbs.Packets.Printed.{ArePrinted, lines_on}
 use Rattle.sl_engine.specs.Kind.Tc as tc_deliver
 use Rattle.sl_engine.specs.Kind.Tm as tm_deliver

@@ -15,7 +15,7 @@ use Rattle.sl_engine.specs.Io.Output.{Adds, KeepsWriter}
 use Rattle.sl_engine.specs.Io.Streams.{StopsWriting}
 use Rattle.sl_io.specs.declared.counted.Counted.{Counted}
 use Rattle.sl_io.specs.declared.fault.LinkFault.TheVariants.{Write}
-use Rattle.sl_engine.specs.declared.verbs.packets.printer.ChannelKind.{ChannelKind}
+use Rattle.sl_engine.specs.declared.verbs.packets.printer.ChannelName.{ChannelName}
 use Rattle.sl_engine.specs.declared.verbs.packets.printer.Printer.{Printer}
 use Rattle.sl_engine.specs.Link.Fault.{flow_fault}
 use Rattle.sl_engine.specs.Verbs.Packets.Printed.{channel_name, lines_on}
@@ -49,23 +49,23 @@ module _ {W : Type 0} {contents : W → Option (List ℕ)} where
 
 -- ---- the sink
 
-lines_append : (kind : ChannelKind) (channel : ℕ) (xs ys : List (List ℕ)) → lines_on kind channel (xs ++ ys) ≡ lines_on kind channel xs ++ lines_on kind channel ys
-lines_append kind channel xs ys = simp (map-append, concat-append)
+lines_append : (names : ChannelName) (channel : ℕ) (xs ys : List (List ℕ)) → lines_on names channel (xs ++ ys) ≡ lines_on names channel xs ++ lines_on names channel ys
+lines_append names channel xs ys = simp (map-append, concat-append)
 
 module _ {W : Type 0} (contents : W → Option (List ℕ)) where
   -- a packet was printed, to the same output
   abbrev pub Prints : Printer W → ℕ → List ℕ → Printer W → Type 0
   Prints old channel packet new =
-      (new.kind ≡ old.kind) × (new.out.ghost_name ≡ old.out.ghost_name) × Adds contents old.out.now (packet_line (channel_name old.kind channel) packet) new.out.now
+      (new.names ≡ old.names) × (new.out.ghost_name ≡ old.out.ghost_name) × Adds contents old.out.now (packet_line (channel_name old.names channel) packet) new.out.now
 
   abbrev pub FailsToPrint : Printer W → ℕ → List ℕ → SinkFault → Printer W → Type 0
   FailsToPrint old channel packet fault new =
       (fault ≡ Device) × (new.out.ghost_name ≡ old.out.ghost_name) × KeepsWriter old.out.now new.out.now
-      × StopsWriting contents old.out.now.writer.now new.out.now.writer.now (old.out.now.lines ++ packet_line (channel_name old.kind channel) packet) ⊥ Write
+      × StopsWriting contents old.out.now.writer.now new.out.now.writer.now (old.out.now.lines ++ packet_line (channel_name old.names channel) packet) ⊥ Write
 
   -- packets that were printed in turn
   printed : (packets : List (List ℕ)) (old new : Printer W) (channel : ℕ) → TakesAll Prints old channel packets new
-      → (new.kind ≡ old.kind) × (new.out.ghost_name ≡ old.out.ghost_name) × Adds contents old.out.now (lines_on old.kind channel packets) new.out.now
+      → (new.names ≡ old.names) × (new.out.ghost_name ≡ old.out.ghost_name) × Adds contents old.out.now (lines_on old.names channel packets) new.out.now
   printed [] old new channel same = rw same (refl, refl, adds_lines contents old.out.now old.out.now [] refl (sym (append-nil old.out.now.lines)))
   printed (packet ∷ packets) old new channel t =
       let later = printed packets t.0 new channel t.2 in
@@ -73,7 +73,7 @@ module _ {W : Type 0} (contents : W → Option (List ℕ)) where
 
   module _ (packets : List (List ℕ)) (old new : Printer W) (channel : ℕ) where
     -- where the lent output ends as this, and the packets' lines are this text
-    pub all_printed : (out : Output W) (text : List ℕ) → (old.out.ghost_name ≡ new.out.ghost_name → out ≡ new.out.now) → text ≡ lines_on old.kind channel packets
+    pub all_printed : (out : Output W) (text : List ℕ) → (old.out.ghost_name ≡ new.out.ghost_name → out ≡ new.out.now) → text ≡ lines_on old.names channel packets
         → TakesAll Prints old channel packets new → Adds contents old.out.now text out
     all_printed out text ends text_is t = grind (arith, printed)
 
@@ -83,16 +83,16 @@ module _ {W : Type 0} (contents : W → Option (List ℕ)) where
     lent_printing failures fault stopped = grind (arith, printed)
 
     -- and where the writer ends as this, it has a beginning of the text
-    pub stops_printing : (writer : Counted W) (text : List ℕ) → (old.out.ghost_name ≡ new.out.ghost_name → writer ≡ new.out.now.writer.now) → text ≡ lines_on old.kind channel packets
+    pub stops_printing : (writer : Counted W) (text : List ℕ) → (old.out.ghost_name ≡ new.out.ghost_name → writer ≡ new.out.now.writer.now) → text ≡ lines_on old.names channel packets
         → (failures : Printer W → ℕ) (at_memory : Type 0) (fault : FlowFault) → IsStopped Prints FailsToPrint failures old channel packets fault new → (fault ≡ flow.Memory → at_memory)
         → StopsWriting contents old.out.now.writer.now writer (old.out.now.lines ++ text) at_memory (flow_fault fault)
     stops_printing writer text ends text_is failures at_memory flow.Memory stopped allowed =
         let s = stopped.0 in
         let p = printed s.accepted old new channel s.takes in
-        rw (ends (sym p.1), text_is, s.in_order, lines_append old.kind channel s.accepted s.later) (stops_then _ p.2 (stops_at_memory contents _ _ (allowed refl)))
+        rw (ends (sym p.1), text_is, s.in_order, lines_append old.names channel s.accepted s.later) (stops_then _ p.2 (stops_at_memory contents _ _ (allowed refl)))
     stops_printing writer text ends text_is failures at_memory (flow.Sink fault) stopped allowed =
         let s = stopped.0 in
         let p = printed s.accepted old s.before channel s.takes in
-        rw (s.fails.0, ends (sym (s.fails.1 ∙ p.1)), text_is, s.in_order, lines_append old.kind channel s.accepted (s.refused ∷ s.later))
-        (memory_weaker (λ never. absurd never) (stops_then _ p.2 (stops_first s.before.out.now.lines (packet_line (channel_name old.kind channel) s.refused) (lines_on old.kind channel s.later) (rw p.0 at s.fails.3))))
+        rw (s.fails.0, ends (sym (s.fails.1 ∙ p.1)), text_is, s.in_order, lines_append old.names channel s.accepted (s.refused ∷ s.later))
+        (memory_weaker (λ never. absurd never) (stops_then _ p.2 (stops_first s.before.out.now.lines (packet_line (channel_name old.names channel) s.refused) (lines_on old.names channel s.later) (rw p.0 at s.fails.3))))
     stops_printing writer text ends text_is failures at_memory flow.Failed stopped allowed = absurd stopped

@@ -22,11 +22,11 @@ pub returns-in_err-report-clause-fault : goal.returns-in_err-report-clause-fault
 returns-in_err-report-clause-fault g c =
     let e = c.in_err-report.ensures in
     passed_up _ _ c.from_residual.ensures.1 (λ before h.
-    stops_printing g.W.Write.contents _ _ c.deliver.new.sink _ _ _ (search rules) (c.channel_kind.ensures c.args.managed.now before c.args.frame.now) _ _ _ (e.stopped before h.processed) (e.memory before h.processed))
+    stops_printing g.W.Write.contents _ _ c.deliver.new.sink _ _ _ (search rules) (c.channel_name.ensures c.args.managed.now before c.args.frame.now) _ _ _ (e.stopped before h.processed) (e.memory before h.processed))
 
 pub returns-clause-lines : goal.returns-clause-lines
 returns-clause-lines g c = λ before h.
-    all_printed g.W.Write.contents _ _ c.deliver.new.sink _ _ _ (search rules) (c.channel_kind.ensures c.args.managed.now before c.args.frame.now)
+    all_printed g.W.Write.contents _ _ c.deliver.new.sink _ _ _ (search rules) (c.channel_name.ensures c.args.managed.now before c.args.frame.now)
     (c.in_ok-report.ensures.delivers before h.processed).accepted
 
 pub returns-clause-has_listed : goal.returns-clause-has_listed

@@ -10,8 +10,8 @@ returns-in_err-make_room-clause-fault g c = passed_up _ _ c.from_residual.ensure
 pub returns-in_err-push_packet_text-clause-fault : goal.returns-in_err-push_packet_text-clause-fault
 returns-in_err-push_packet_text-clause-fault g c =
     passed_up _ _ c.from_residual-in_err-push_packet_text.ensures.1
-    (stops_then _ (adds_both c.in_ok-make_room.ensures.kept (adds_lines _ _ _ (channel_name c.args.kind c.args.channel) refl c.push_channel.ensures.text)) c.in_err-push_packet_text.ensures.fault)
+    (stops_then _ (adds_both c.in_ok-make_room.ensures.kept (adds_lines _ _ _ (channel_name c.args.names c.args.channel) refl c.push_channel.ensures.text)) c.in_err-push_packet_text.ensures.fault)
 
 pub returns-clause-line : goal.returns-clause-line
 returns-clause-line g c =
-    adds_both (adds_both c.in_ok-make_room.ensures.kept (adds_lines _ _ _ (channel_name c.args.kind c.args.channel) refl c.push_channel.ensures.text)) c.in_ok-push_packet_text.ensures.line
+    adds_both (adds_both c.in_ok-make_room.ensures.kept (adds_lines _ _ _ (channel_name c.args.names c.args.channel) refl c.push_channel.ensures.text)) c.in_ok-push_packet_text.ensures.line

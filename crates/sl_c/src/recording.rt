@@ -39,7 +39,7 @@ pub extern "C" fn sllink_show_tm(
 {
     give_text(
         alloc,
-        (VerbName::Show, RecordingKind::Tm),
+        Engine::new(VerbName::Show, RecordingKind::Tm),
         managed,
         recording,
         output,
@@ -64,7 +64,7 @@ pub extern "C" fn sllink_show_tc(
 {
     give_text(
         alloc,
-        (VerbName::Show, RecordingKind::Tc),
+        Engine::new(VerbName::Show, RecordingKind::Tc),
         managed,
         recording,
         output,
@@ -88,7 +88,7 @@ pub extern "C" fn sllink_check_tm(
 {
     give_text(
         alloc,
-        (VerbName::Check, RecordingKind::Tm),
+        Engine::new(VerbName::Check, RecordingKind::Tm),
         managed,
         recording,
         output,
@@ -112,7 +112,7 @@ pub extern "C" fn sllink_check_tc(
 {
     give_text(
         alloc,
-        (VerbName::Check, RecordingKind::Tc),
+        Engine::new(VerbName::Check, RecordingKind::Tc),
         managed,
         recording,
         output,
@@ -136,7 +136,7 @@ pub extern "C" fn sllink_packets_tm(
 {
     give_text(
         alloc,
-        (VerbName::Packets, RecordingKind::Tm),
+        Engine::new(VerbName::Packets, RecordingKind::Tm),
         managed,
         recording,
         output,
@@ -160,7 +160,7 @@ pub extern "C" fn sllink_packets_tc(
 {
     give_text(
         alloc,
-        (VerbName::Packets, RecordingKind::Tc),
+        Engine::new(VerbName::Packets, RecordingKind::Tc),
         managed,
         recording,
         output,
@@ -184,7 +184,7 @@ pub extern "C" fn sllink_normalise_tm(
 {
     give_text(
         alloc,
-        (VerbName::Normalise, RecordingKind::Tm),
+        Engine::new(VerbName::Normalise, RecordingKind::Tm),
         managed,
         recording,
         output,
@@ -208,7 +208,7 @@ pub extern "C" fn sllink_normalise_tc(
 {
     give_text(
         alloc,
-        (VerbName::Normalise, RecordingKind::Tc),
+        Engine::new(VerbName::Normalise, RecordingKind::Tc),
         managed,
         recording,
         output,
@@ -227,7 +227,7 @@ fn give_text(
     size: &mut usize,
     totals: &mut TotalsFields,
 ) -> u32
-    ensures { GivesText (engine_text engine.0 engine.1) (engine_counts engine.0 engine.1)
+    ensures { GivesText (engine_text engine.verb engine.kind) (engine_counts engine.verb engine.kind)
         fields.now recording.now (lent output.old size.old totals.old)
         (lent output.new size.new totals.new) result }
 {
@@ -271,9 +271,9 @@ fn read_whole(
     recording: &[u8],
 ) -> Option<(Vec<u8>, Totals)>
     ensures text { IfSome result (λ read. read.0.items
-        ≡ engine_text engine.0 engine.1 managed.now recording.now) }
+        ≡ engine_text engine.verb engine.kind managed.now recording.now) }
     ensures counts { IfSome result (λ read. read.1
-        ≡ engine_counts engine.0 engine.1 managed.now recording.now) }
+        ≡ engine_counts engine.verb engine.kind managed.now recording.now) }
 {
     let mut reader = Counted::new(recording);
     let mut writer = Counted::new(Vec::new(alloc));

@@ -1,6 +1,7 @@
 -- The engines: what is done with a recording, by the kind of its frames. What an engine writes for a recording and what
 -- it counts in it, and how it stops.
 use Rattle.std.specs.Prelude.{ℕ, List, ◌≡◌, ◌≢◌, Option}
+use Rattle.sl_engine.specs.declared.engine.Engine.{Engine}
 use Rattle.sl_engine.specs.declared.engine.RecordingKind.{RecordingKind}
 use Rattle.sl_engine.specs.declared.engine.RecordingKind.TheVariants.{Tm, Tc}
 use Rattle.sl_engine.specs.declared.engine.VerbName.{VerbName}
@@ -26,8 +27,8 @@ use Rattle.sl_engine.specs.Verbs.Show.Tc.{show_tc_text, show_tc_counts}
 use Rattle.sl_engine.specs.Verbs.Show.Tm.{show_tm_text, show_tm_counts}
 
 -- what is done with a recording, and which frames it has
-abbrev pub Engine : Type 0
-Engine = VerbName × RecordingKind
+abbrev pub engine_of : VerbName → RecordingKind → Engine
+engine_of verb kind = record { verb = verb; kind = kind }
 
 -- the listing of its frames, of its anomalies or of its packets, or the normal form of its packets
 abbrev pub engine_text : VerbName → RecordingKind → Parameters → List ℕ → List ℕ
@@ -70,8 +71,8 @@ module _ {R W : Type 0} (remaining : R → Option (List ℕ)) (contents : W → 
   -- the engine's text of a recording was written, and the totals are its counts of it
   abbrev pub HasWritten : Counted R → Counted R → Counted W → Counted W → Engine → Parameters → Counts → Type 0
   HasWritten reader reader' writer writer' engine managed =
-      TranslatesWithTotals remaining contents reader reader' writer writer' (engine_text engine.0 engine.1 managed)
-      (engine_counts engine.0 engine.1 managed) managed.max_octets
+      TranslatesWithTotals remaining contents reader reader' writer writer'
+      (engine_text engine.verb engine.kind managed) (engine_counts engine.verb engine.kind managed) managed.max_octets
 
   -- A fault stopped the engine. A listing of frames needs no memory. A normal form is written once all is read: at
   -- `Write` all was read, and at any other fault nothing is written. The program's `run` has this record in its
@@ -79,8 +80,8 @@ module _ {R W : Type 0} (remaining : R → Option (List ℕ)) (contents : W → 
   pub record IsStoppedBy (reader reader' : Counted R) (writer writer' : Counted W) (engine : Engine)
       (managed : Parameters) (fault : LinkFault) : Type 0 where
     pub cause : Stops remaining contents reader reader' writer writer'
-        (engine_text engine.0 engine.1 managed) managed.max_octets chunk_size fault
+        (engine_text engine.verb engine.kind managed) managed.max_octets chunk_size fault
     -- for `run`, which has no clause `memory` as `run_engine` has
-    pub not_memory : engine.0 ≡ Show → fault ≢ Memory
-    pub all_read : engine.0 ≡ Normalise → fault ≡ Write → IsRead remaining reader'
-    pub nothing : engine.0 ≡ Normalise → fault ≢ Write → writer' ≡ writer
+    pub not_memory : engine.verb ≡ Show → fault ≢ Memory
+    pub all_read : engine.verb ≡ Normalise → fault ≡ Write → IsRead remaining reader'
+    pub nothing : engine.verb ≡ Normalise → fault ≢ Write → writer' ≡ writer

@@ -1,6 +1,6 @@
 //! The engines, by what is done with a recording and by the kind of its frames.
 ghost use Rattle.std.specs.Prelude.{◌≡◌, IfOk, IfErr};
-ghost use Rattle.sl_engine.specs.Engine.{HasWritten, IsStoppedBy, MayRefuseEngineMemory, engine_frames};
+ghost use Rattle.sl_engine.specs.Engine.{HasWritten, IsStoppedBy, MayRefuseEngineMemory, engine_frames, engine_of};
 ghost use Rattle.sl_engine.specs.Framing.{MayRefuseMemoryAtSome};
 
 use crate::link::managed::Managed;
@@ -34,10 +34,23 @@ pub enum RecordingKind {
 }
 
 /// What is done with a recording, and which frames it has.
-pub type Engine = (VerbName, RecordingKind);
+#[derive(Clone, Copy)]
+pub struct Engine {
+    pub verb: VerbName,
+    pub kind: RecordingKind,
+}
 
-/// Calls the engine of a verb and a kind: for `Show` and `Tm` [`show_tm`], and so on. The faults
-/// are the engine's; `Memory` comes where that engine may be refused memory, for `Show` never.
+impl Engine {
+    /// The engine of a verb and a kind.
+    pub fn new(verb: VerbName, kind: RecordingKind) -> Engine
+        ensures { result ≡ engine_of verb kind }
+    {
+        Engine { verb, kind }
+    }
+}
+
+/// Calls an engine: for `Show` and `Tm` [`show_tm`], and so on. The faults are the engine's;
+/// `Memory` comes where that engine may be refused memory, for `Show` never.
 pub fn run_engine<R: Read, W: Write>(
     alloc: Global,
     engine: Engine,
@@ -54,10 +67,10 @@ pub fn run_engine<R: Read, W: Write>(
     // Memory is refused only where that engine may be refused it, for a listing of frames nowhere.
     ensures memory { IfErr result (λ fault. fault ≡ LinkFault.Memory
         → MayRefuseMemoryAtSome R.remaining reader.old reader.new
-        (engine_frames engine.1 managed.now)
-        (MayRefuseEngineMemory engine.0 engine.1 managed.now)) }
+        (engine_frames engine.kind managed.now)
+        (MayRefuseEngineMemory engine.verb engine.kind managed.now)) }
 {
-    match engine {
+    match (engine.verb, engine.kind) {
         (VerbName::Show, RecordingKind::Tm) => show_tm(managed, reader, writer),
         (VerbName::Show, RecordingKind::Tc) => show_tc(managed, reader, writer),
         (VerbName::Check, RecordingKind::Tm) => check_tm(alloc, managed, reader, writer),

@@ -112,7 +112,7 @@ fn run_asked<R: Read, W: Write, E: Write>(
     ensures stopped { result ≡ 3 → HasStopped R.remaining W.contents reader.old reader.new
         writer.old writer.new asked.now }
 {
-    let engine = (asked.verb, asked.kind);
+    let engine = Engine::new(asked.verb, asked.kind);
     match &asked.managed {
         Ok(managed) => match run_and_flush(alloc, engine, managed, reader, writer) {
             Ok(totals) if totals.anomalies() == 0 => SUCCESS,

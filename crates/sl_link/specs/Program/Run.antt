@@ -5,7 +5,7 @@ use Rattle.sl_engine.specs.declared.engine.VerbName.TheVariants.{Check}
 use Rattle.sl_io.specs.declared.counted.Counted.{Counted}
 use Rattle.sl_io.specs.declared.fault.LinkFault.{LinkFault}
 use Rattle.sl_link.specs.declared.program.command_line.Asked.{Asked}
-use Rattle.sl_engine.specs.Engine.{HasWritten, IsStoppedBy}
+use Rattle.sl_engine.specs.Engine.{HasWritten, IsStoppedBy, engine_of}
 use Rattle.sl_engine.specs.Link.Managed.{Parameters}
 use Rattle.sl_engine.specs.Link.Totals.{Counts}
 use Rattle.sl_link.specs.Program.CommandLine.{AskFor}
@@ -16,7 +16,8 @@ module _ {R W : Type 0} (remaining : R → Option (List ℕ)) (contents : W → 
       (totals : Counts) : Type 0 where
     pub managed : Parameters
     pub allowed : asked.managed ≡ Ok managed
-    pub written : HasWritten remaining contents reader reader' writer writer' (asked.verb, asked.kind) managed totals
+    pub written : HasWritten remaining contents reader reader' writer writer'
+        (engine_of asked.verb asked.kind) managed totals
 
   -- the engine came to its end, and met no anomaly
   pub record HasSucceeded (reader reader' : Counted R) (writer writer' : Counted W) (asked : Asked) : Type 0 where
@@ -36,7 +37,8 @@ module _ {R W : Type 0} (remaining : R → Option (List ℕ)) (contents : W → 
     pub managed : Parameters
     pub allowed : asked.managed ≡ Ok managed
     pub fault : LinkFault
-    pub stopped : IsStoppedBy remaining contents reader reader' writer writer' (asked.verb, asked.kind) managed fault
+    pub stopped : IsStoppedBy remaining contents reader reader' writer writer'
+        (engine_of asked.verb asked.kind) managed fault
 
 -- the words are taken, and this holds of what they ask for
 pub record WithAsked (words : List Text) (Done : Asked → Type 0) : Type 0 where

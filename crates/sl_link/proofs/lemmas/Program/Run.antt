@@ -12,7 +12,8 @@ use Rattle.sl_io.specs.declared.fault.LinkFault.TheVariants.{Memory, Write}
 use Rattle.sl_link.specs.Program.Answer.{EndsAsHelp, WithAnswer, WithText, version_line}
 use Rattle.sl_link.specs.Program.CommandLine.{AskForHelp, AskForVersion, IsRefusal}
 use Rattle.sl_engine.specs.Link.Counted.{stream_of, HadOneFault}
-use Rattle.sl_engine.specs.Engine.{Engine, HasWritten, IsStoppedBy}
+use Rattle.sl_engine.specs.declared.engine.Engine.{Engine}
+use Rattle.sl_engine.specs.Engine.{HasWritten, IsStoppedBy}
 use Rattle.sl_engine.specs.Link.Managed.{Parameters}
 use Rattle.sl_engine.specs.Link.Totals.{Counts}
 

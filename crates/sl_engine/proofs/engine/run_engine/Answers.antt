@@ -18,12 +18,6 @@ returns-in-Show-Tm-clause-written g c = rw (c.in-Show-Tm.is-0, c.in-Show-Tm.is-1
 pub returns-in-Show-Tc-clause-written : goal.returns-in-Show-Tc-clause-written
 returns-in-Show-Tc-clause-written g c = rw (c.in-Show-Tc.is-0, c.in-Show-Tc.is-1) c.show_tc.ensures.totals
 
-pub returns-in-Check-Tm-clause-memory : goal.returns-in-Check-Tm-clause-memory
-returns-in-Check-Tm-clause-memory g c = rw (c.in-Check-Tm.is-0, c.in-Check-Tm.is-1) c.check_tm.ensures.memory
-
-pub returns-in-Check-Tc-clause-memory : goal.returns-in-Check-Tc-clause-memory
-returns-in-Check-Tc-clause-memory g c = rw (c.in-Check-Tc.is-0, c.in-Check-Tc.is-1) c.check_tc.ensures.memory
-
 pub returns-in-Packets-Tm-clause-memory : goal.returns-in-Packets-Tm-clause-memory
 returns-in-Packets-Tm-clause-memory g c = rw (c.in-Packets-Tm.is-0, c.in-Packets-Tm.is-1) c.packets_tm.ensures.memory
 

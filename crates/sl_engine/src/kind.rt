@@ -93,7 +93,8 @@ pub trait Deliverer: Followed {
 }
 
 /// Counts the packets of frames of one kind, as a deliverer has them, and reports the same of the
-/// frames. It keeps no octets of packets, so it takes no memory and has no fault.
+/// frames. Of packets it keeps no octets but those of a header, so it takes no memory and has no
+/// fault.
 pub trait Counter: Followed {
     /// No frame has been processed yet.
     fn begin(managed: &Managed) -> Self

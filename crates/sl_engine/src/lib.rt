@@ -16,8 +16,8 @@
 //! [`LinkFault`], or what it found. Those of the first three points read a [`Counted`] stream,
 //! write another one and answer what they counted, their [`Totals`]. `same_packets_` and
 //! `same_packets_in_memory_` answer a `bool`, and `compare_` a [`Compared`]; all but the second read
-//! two such streams. [`run_engine`] makes a call of the first three points,
-//! that of an [`Engine`], a [`VerbName`] and a [`RecordingKind`].
+//! two such streams. [`run_engine`] makes a call of the first three points, that of an [`Engine`],
+//! which has a [`VerbName`] and a [`RecordingKind`].
 //!
 //! How a recording goes through the modules is drawn in docs/architecture.md.
 #![tactic(auto)]

@@ -1,5 +1,5 @@
 //! The listings of recordings. A call has two buffers of 65,536 octets on its stack: for what is
-//! read, and for lines.
+//! read, and for lines. `check_tc` has 98,304 octets of counts there too.
 ghost use Rattle.std.specs.Prelude.{◌≡◌, ◌≢◌, IfOk, IfErr, OnOk, Err};
 ghost use Rattle.sl_tcframe.specs.TcDelimited.{tc_frames_of};
 ghost use Rattle.sl_tmframe.specs.TmDelimited.{tm_frames_of};
@@ -97,9 +97,9 @@ pub fn show_tc<R: Read, W: Write>(
 /// and then one of its totals (docs/listings.md).
 ///
 /// It keeps what was read last and the lines that aren't written yet, at most 65,536 octets each,
-/// one frame at most that began in an earlier read, and of the packet that is incomplete on each
-/// virtual channel the number of octets and the first six. It takes no memory, and `alloc` isn't
-/// read. No clause says what is kept: that is seen by reading.
+/// one frame at most that began in an earlier read, and of each virtual channel the last frame count
+/// and the number of octets of the incomplete packet, with the first six of them. It takes no
+/// memory, and `alloc` isn't read. No clause says what is kept: that is seen by reading.
 ///
 /// The fault is `Read` where the reader had one, `TooLong` where more octets came than the managed
 /// limit, and `Write` where the writer had one.

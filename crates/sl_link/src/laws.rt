@@ -80,10 +80,10 @@ pub fn tm_anomalies_are_listed()
     ensures { TmAnomaliesAreListed }
 {}
 
-/// The same of `check tc`, where FARM-1's window has at most 256 numbers. What an anomaly is, is said
-/// by how the recording is delimited and how its frames are read, by FARM-1's table, and by the
-/// relations that the laws of `sl_tcflow` tie to its reports: a segment out of sequence, a series
-/// that is dropped, too long or incomplete, octets that are left after packets.
+/// The same of `check tc`, where FARM-1's window has at most 256 numbers, as each `Window` has. What
+/// an anomaly is, is said by how the recording is delimited and how its frames are read, by FARM-1's
+/// table, and by the relations that the laws of `sl_tcflow` tie to its reports: a segment out of
+/// sequence, a series that is dropped, too long or incomplete, octets that are left after packets.
 #[tactic(auto, using(crate::proofs::lemmas::Laws::Anomaly::Tc::tc_anomalies_are_listed))]
 pub fn tc_anomalies_are_listed()
     ensures { TcAnomaliesAreListed }

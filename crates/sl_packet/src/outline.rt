@@ -30,7 +30,7 @@ impl Outline {
         }
     }
 
-    /// The outline of these octets.
+    /// The outline of these octets, fewer than 2^32.
     pub fn of(octets: &[u8]) -> Outline
         requires { length octets.now < 2 ^ 32 }
         ensures { HasOutline octets.now result }
@@ -41,7 +41,7 @@ impl Outline {
         }
     }
 
-    /// The outline of the octets with more octets after them.
+    /// The outline of the octets with more octets after them, together fewer than 2^32.
     #[inline(always)]
     pub fn plus(&self, more: &[u8]) -> Outline
         requires { self.now.octets + length more.now < 2 ^ 32 }

@@ -63,12 +63,13 @@ pub trait PacketSink {
         ensures counted { OnErr result (failures self.new ≡ one_more (failures self.old)) };
 }
 
-/// The result of handing a sink the packets at the front of octets, where it refused none.
+/// The result of handing a sink the packets at the front of octets, where it refused none, or of
+/// counting these packets.
 #[derive(Clone, Copy, Debug)]
 pub struct HandedOver<'a> {
-    /// The number of packets that the sink accepted.
+    /// The number of packets, idle ones left out. A sink has accepted all of them.
     pub packets: usize,
-    /// The number of idle packets, which weren't handed to the sink.
+    /// The number of idle packets, which a sink isn't handed.
     pub idle: usize,
     /// The octets after the last packet, idle or not. They begin with no whole packet.
     pub remainder: &'a [u8],

@@ -30,7 +30,7 @@ AreIncomplete r incomplete views =
     → slice_index_or incomplete (channel_at vc map_id) None ≡ incomplete_of (segments_of r vc map_id views)
 
 -- The octets so far of an incomplete series, none where there is no such series. Only contracts of
--- private functions of `sl_link` stand on this and on `incomplete_octets_on`.
+-- private functions of `sl_engine` stand on this and on `incomplete_octets_on`.
 abbrev pub octets_of_series : Option (List ℕ) → List ℕ
 octets_of_series None = []
 octets_of_series (Some octets) = octets

@@ -1,4 +1,4 @@
--- The report of a receiver on one frame.
+-- The report of a receiver or a counter on one frame.
 use Rattle.std.specs.Prelude.{ℕ, Bool, Option}
 use Rattle.sl_cop.specs.declared.verdict.Verdict.{Verdict}
 

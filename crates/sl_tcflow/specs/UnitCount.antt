@@ -1,5 +1,5 @@
 -- What is counted of a service data unit that comes in parts, CCSDS 232.0-B, and whose octets aren't
--- kept. Only contracts of private functions and lemmas cite `IsCountOf` and `ForSeriesOf`.
+-- kept. Only contracts of private functions and lemmas cite `ForSeriesOf`.
 use Rattle.std.specs.Prelude.{◌≡◌, ℕ, List, Option, None, Some, ⊤, length}
 use Rattle.sl_packet.specs.Outline.{HasOutline}
 use Rattle.sl_packet.specs.Packets.{only_idle, packets_of, rest_of, without_idle}

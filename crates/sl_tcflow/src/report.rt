@@ -1,4 +1,4 @@
-//! What a frame brought to a receiver.
+//! What a frame brought to a receiver or a counter.
 ghost use Rattle.std.specs.Prelude.{◌≡◌, ◌≤◌, IfSome};
 
 use sl_cop::Verdict;
@@ -64,8 +64,8 @@ impl TcStep {
         self.map
     }
 
-    /// The number of packets that were handed over: those of the service data unit that the frame's
-    /// unit completes, idle packets left out. 0 where the unit completes none.
+    /// The number of packets of the service data unit that the frame's unit completes, idle packets
+    /// left out; a receiver has handed them over. 0 where the unit completes none.
     pub fn packets(&self) -> u32
         ensures { result ≡ self.now.packets }
     {

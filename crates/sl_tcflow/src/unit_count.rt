@@ -63,7 +63,7 @@ impl UnitCount {
             };
         };
         // The packet that was incomplete ends in this part, and the packets after it are counted.
-        // So `len` isn't the smaller one, and `saturating_sub` shows it, in place of an invariant.
+        // So `len` is never less than `self.rest.octets`; `saturating_sub` spares a proof of it.
         let is_idle = rest.is_idle();
         let (_, later) = part.split_at(len.saturating_sub(self.rest.octets) as usize);
         let later = UnitCount::of(later);

@@ -116,7 +116,7 @@ impl UnitCounter {
     pub fn is_open(&self, vc: u8, map: u8) -> bool
         requires vc { vc ≤ 63 }
         requires map { map ≤ 63 }
-        ensures { ForCounted self.now (λ r views.
+        ensures value { ForCounted self.now (λ r views.
             result ≡ is_some (incomplete_of (segments_of r vc map views))) }
     {
         self.series.held(vc, map).is_some()

@@ -1,7 +1,7 @@
 -- Anomalies at the next frame of a virtual channel, CCSDS 132.0-B: a gap in the virtual channel
 -- frame counts before the frame, an incomplete packet that the frame breaks off, and octets of
 -- another packet version than 0 at a packet start of the frame. A law whose name says "told" is on
--- what the extractor reports.
+-- what an extractor or a counter reports.
 use Rattle.std.specs.Prelude.{◌≡◌, ◌≢◌, ℕ, ◌+◌, ◌%◌, ◌<◌, ◌≤◌, Bool, true, false, if◌then◌else◌, List, [], ◌∷◌, ◌++◌, length, drop, Option, None, Some}
 use Rattle.std.specs.List.{AllByRecursion, concat, flat_map, list_any}
 use Rattle.sl_packet.specs.Front.{is_foreign}

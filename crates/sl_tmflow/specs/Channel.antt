@@ -1,4 +1,4 @@
--- The state that an extractor keeps of a virtual channel of CCSDS 132.0-B, and the state after the
+-- The state that an extractor or a counter keeps of a virtual channel of CCSDS 132.0-B, and the state after the
 -- next frame. The steps from one state to the next are the code's, not the standard's, and only
 -- contracts of private functions cite them.
 use Rattle.std.specs.Prelude.{ℕ, Bool, false, List, [], ◌∷◌, ◌++◌, drop, Option, None, Some}

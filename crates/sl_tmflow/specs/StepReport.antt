@@ -1,4 +1,4 @@
--- The report that an extractor answers for a frame.
+-- The report that an extractor or a counter answers for a frame.
 use Rattle.std.specs.Prelude.{ℕ, Bool, Option}
 
 -- the report on one frame

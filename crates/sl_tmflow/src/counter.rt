@@ -13,7 +13,8 @@ use crate::report::TmStep;
 use sl_tmframe::TmFrame;
 
 /// Counts the packets that the virtual channels of CCSDS 132.0-B deliver, as an
-/// [`Extractor`](crate::Extractor) does. No octets of packets are kept, so no memory is taken.
+/// [`Extractor`](crate::Extractor) does. Of packets no octets are kept but those of a header, so no
+/// memory is taken.
 #[derive(Clone, Copy)]
 pub struct PacketCounter {
     // The virtual channels 0 to 7, in this order.
@@ -36,7 +37,7 @@ impl PacketCounter {
         // `ForCounted self.old (λ views. ..)` says that a property holds for every list `views` of
         // frames that can have led to the state before the call. After it these frames and then the
         // new one are counted.
-        ensures counted { ForCounted self.old (λ views.
+        ensures processed { ForCounted self.old (λ views.
             HasCounted self.new (views ++ frame.now ∷ [])) }
 
         // The packets that end in the frame.

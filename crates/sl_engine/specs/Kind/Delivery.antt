@@ -120,7 +120,7 @@ pub record AreStored (k : Kind) (frames : List (List ℕ)) (lists : List (List (
       → slice_index_or lists channel [] ≡ without_idle (k.packets frames channel)
   pub none_past : (channel : ℕ) → k.channel_limit ≤ channel → slice_index_or lists channel [] ≡ []
 
--- Memory may be refused at the last of these frames where packets are stored, as `normalise` and `same` store them:
+-- Memory may be refused at the last of these frames where packets are stored, as `normalise`, `same` and `compare` do:
 -- for what is incomplete before or after it, or since packets of any of these frames are stored.
 abbrev pub MayRefuseStoreMemory : Kind → (List (List ℕ) → Type 0) → List (List ℕ) → Type 0
 MayRefuseStoreMemory k is_incomplete_at_last frames = is_incomplete_at_last frames ⊎ (0 < number_of_packets k frames)

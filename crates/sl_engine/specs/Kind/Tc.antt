@@ -110,7 +110,7 @@ pub record IsIncompleteAtLastTc (p : Parameters) (frames : List (List ℕ)) : Ty
   pub is_read : as_read p frame ≡ Ok view
   pub incomplete : IsIncompleteAround (reception_of p) (views_of (tc_format p) p.spacecraft before) view
 
--- the same, or these frames deliver a packet: there `normalise` and `same` may be refused it
+-- the same, or these frames deliver a packet: there `normalise`, `same` and `compare` may be refused it
 abbrev pub MayRefuseStoreMemoryTc : Parameters → List (List ℕ) → Type 0
 MayRefuseStoreMemoryTc p = MayRefuseStoreMemory (tc_kind p) (IsIncompleteAtLastTc p)
 

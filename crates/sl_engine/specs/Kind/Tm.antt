@@ -98,7 +98,7 @@ pub record IsIncompleteAtLastTm (p : Parameters) (frames : List (List ℕ)) : Ty
   pub is_read : as_read p frame ≡ Ok view
   pub incomplete : IsIncompleteAround (views_of (tm_format p) p.spacecraft before) view
 
--- the same, or these frames deliver a packet: there `normalise` and `same` may be refused it
+-- the same, or these frames deliver a packet: there `normalise`, `same` and `compare` may be refused it
 abbrev pub MayRefuseStoreMemoryTm : Parameters → List (List ℕ) → Type 0
 MayRefuseStoreMemoryTm p = MayRefuseStoreMemory (tm_kind p) (IsIncompleteAtLastTm p)
 

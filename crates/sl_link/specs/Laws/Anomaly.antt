@@ -1,5 +1,7 @@
 -- An anomaly of a recording, its line in the listing of `check`, and the order of the lines. What is an anomaly of a
--- recording is said by relations, in `Anomaly/Tm.antt` and `Anomaly/Tc.antt`, and not by what the listing is made with.
+-- recording is said by relations, in `Anomaly/Tm.antt` and `Anomaly/Tc.antt`, and not by what the listing is made with,
+-- but for how frames are read and which units FARM-1 accepts: that function goes by `farm_step`, which has the one step
+-- of FARM-1's table for a state and an event.
 pub mod Tc
 pub mod Tm
 use Rattle.std.specs.Prelude.{◌≡◌, ◌⊎◌, ◌↔◌, ⊤, ℕ, ◌+◌, ◌^◌, ◌<◌, List, [], ◌∷◌, ◌++◌, length, map, codes, decimal, Option, None, Some}

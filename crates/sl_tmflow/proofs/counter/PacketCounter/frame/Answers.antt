@@ -5,8 +5,8 @@ use Rattle.sl_tmflow.proofs.lemmas.Anomaly.{dropped_seen, foreign_is}
 use Rattle.sl_tmflow.proofs.lemmas.Outline.{counted_more, ended_after, outline_at, seen_after, state_after}
 use Rattle.sl_tmflow.proofs.counter.PacketCounter.frame.Goals as goal
 
-pub returns-clause-counted : goal.returns-clause-counted
-returns-clause-counted c =
+pub returns-clause-processed : goal.returns-clause-processed
+returns-clause-processed c =
     λ views p. counted_more c.args.self.now _ views c.args.frame.now c.from.result c.take_frame.new.self p (omega arith) (omega arith) (omega arith) refl
     (c.take_frame.ensures.state (state_after (views_on c.args.frame.now.vc views)) (outline_at c.args.self.now views c.from.result c.args.frame.now.vc c.index-self-from.result p (omega arith) (omega arith)))
 

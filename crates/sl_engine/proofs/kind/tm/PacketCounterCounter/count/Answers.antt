@@ -32,7 +32,7 @@ returns-clause-processed c =
     let p = c.args.managed.now in
     let read : as_read p c.args.frame.now ≡ Ok c.in-Ok.view = search rules in
     let long = some_octets c.args.frame.now c.managed.invariant.allowed c.managed.view_is c.requires.2 in
-    λ before h. one_processed c.args.frame.now long h read (c.frame.ensures.counted (views_of (tm_format p) p.spacecraft before) h.processed)
+    λ before h. one_processed c.args.frame.now long h read (c.frame.ensures.processed (views_of (tm_format p) p.spacecraft before) h.processed)
 
 pub returns-clause-brings : goal.returns-clause-brings
 returns-clause-brings c =

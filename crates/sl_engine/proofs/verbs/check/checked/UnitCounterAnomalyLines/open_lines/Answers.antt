@@ -14,5 +14,5 @@ returns-clause-added c = λ p frames h.
     let r = reception_of p in
     let views = views_of (tc_format p) p.spacecraft frames in
     subst (λ added. AddsAnomalies c.args.lines.now added c.event_lines.new.lines c.event_lines.result)
-    (open_is c.args.offset vc map_id (incomplete_of (segments_of r vc map_id views)) (c.is_open.ensures r views h.processed) (c.held-octets.ensures.value r views h.processed))
+    (open_is c.args.offset vc map_id (incomplete_of (segments_of r vc map_id views)) (c.is_open.ensures.value r views h.processed) (c.held-octets.ensures.value r views h.processed))
     (rw (c.from.ensures, c.from-2.ensures) at c.event_lines.ensures)

@@ -1,11 +1,12 @@
 -- What a frame of packets does to an incomplete packet, in the code's own words. Only contracts of
--- private functions cite this file.
+-- private functions and types cite this file.
 use Rattle.std.specs.Prelude.{◌≡◌, ℕ, ◌+◌, ◌≤◌, List, ◌++◌, length, take, Option}
 use Rattle.sl_packet.specs.Front.{Incomplete, front_of}
 use Rattle.sl_packet.specs.Packet.{longest_packet}
 use Rattle.sl_tmframe.specs.TmFrame.{Packets}
 use Rattle.sl_tmflow.specs.declared.progress.Progress.{Progress}
 use Rattle.sl_tmflow.specs.declared.progress.Progress.TheVariants as code
+use Rattle.sl_tmflow.specs.Incomplete.{longest_incomplete}
 use Rattle.sl_tmflow.specs.Delivery.{Continuation, Ends, Continues, Breaks, field_continuation, front_continuation}
 
 -- the continuation that the code's answer stands for, where the packet has these octets so far,
@@ -14,6 +15,11 @@ abbrev pub progress_continuation : Progress → List ℕ → Continuation
 progress_continuation (code.Ends len) octets = Ends (take len octets)
 progress_continuation code.Continues octets = Continues
 progress_continuation code.Breaks octets = Breaks
+
+-- These octets are the octets so far of an incomplete packet, or none: the packet can go on.
+pub record CanGoOn (octets : List ℕ) : Type 0 where
+  pub incomplete : front_of octets ≡ Incomplete
+  pub few : length octets ≤ longest_incomplete
 
 -- `part` are octets of the data field that are enough for the incomplete packet, whose octets so
 -- far are `held`.

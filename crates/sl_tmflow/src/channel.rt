@@ -1,6 +1,7 @@
 //! A virtual channel, and the packet that is incomplete on it.
-ghost use Rattle.std.specs.Prelude.{◌≡◌, ◌≢◌, ◌⊎◌, ◌≤◌, ◌+◌, ◌++◌, [], length, OnOk, IfOk, IfErr};
-ghost use Rattle.sl_packet.specs.Front.{front_of, is_foreign};
+ghost use Rattle.std.specs.Prelude.{◌≡◌, ◌≢◌, ◌⊎◌, ◌≤◌, ◌+◌, ◌++◌, ℕ, List, [], Some, length};
+ghost use Rattle.std.specs.Prelude.{OnOk, IfOk, IfErr};
+ghost use Rattle.sl_packet.specs.Front.{WholePacket, front_of, is_foreign};
 ghost use Rattle.sl_packet.specs.Packets.{packets_of, rest_of};
 ghost use Rattle.sl_packet.specs.Stopping.{HandsOver};
 ghost use Rattle.sl_tmframe.specs.TmField.{as_content};
@@ -39,11 +40,11 @@ impl Model for Channel {
 
     ghost Value = { ChannelWithMemory };
 
-    ghost use Rattle.sl_tmflow.specs.ExtractorModel.{channel_with_memory, HoldsFew};
+    ghost use Rattle.sl_tmflow.specs.ExtractorModel.{channel_with_memory, HoldsIncomplete};
 
     ghost view = { channel_with_memory };
 
-    ghost invariant = { HoldsFew };
+    ghost invariant = { HoldsIncomplete };
 }
 
 impl Channel {
@@ -60,6 +61,7 @@ impl Channel {
     /// Takes the next frame: hands the sink the packets that end in the frame, and answers the
     /// report on the frame. After a fault no clause says what the state is, and the extractor
     /// doesn't read it any more.
+    #[tactic(auto, using(crate::proofs::lemmas::Delivery::Channel::none_kept))]
     pub(crate) fn take_frame<S: PacketSink>(
         &mut self,
         frame: &TmFrame,
@@ -219,6 +221,9 @@ impl Channel {
     ) -> Result<TmStep, FlowFault>
         requires vc { vc ≤ 7 }
         requires inside { IsFieldInRange (as_content field.now) }
+        // No octets are held where a packet starts: a packet that goes on leaves no packet start.
+        requires free { (first : ℕ) (octets : List ℕ)
+            → as_content field.now ≡ Packets (Some first) octets → self.old.state.held ≡ [] }
         // A packet that is incomplete at the end of the field is kept, and memory is refused only
         // where there is such a packet.
         ensures count { self.new.state.count ≡ self.old.state.count }
@@ -245,6 +250,7 @@ impl Channel {
     }
 
     // As `take_starts`, where `octets` are those of the data field from its first packet start on.
+    #[tactic(auto, using(crate::proofs::lemmas::Delivery::Start::none_in_rest, crate::proofs::lemmas::Incomplete::List::kept_can_go_on))]
     fn take_from<S: PacketSink>(
         &mut self,
         octets: &[u8],
@@ -253,6 +259,7 @@ impl Channel {
     ) -> Result<TmStep, FlowFault>
         requires vc { vc ≤ 7 }
         requires short { length octets.now ≤ longest_field }
+        requires free { self.old.state.held ≡ [] }
         // A packet that is incomplete at the end of the octets is kept, and memory is refused only
         // where there is such a packet.
         ensures count { self.new.state.count ≡ self.old.state.count }
@@ -273,9 +280,6 @@ impl Channel {
             Err(flow) => return Err(flow),
         };
         let (incomplete, foreign) = read_remainder(remainder);
-        // No octets are held here, since a packet that goes on leaves no packet start. The contract
-        // doesn't say so.
-        self.held.clear();
         if add_part(&mut self.held, incomplete).is_err() {
             return Err(FlowFault::Memory);
         }
@@ -283,16 +287,16 @@ impl Channel {
     }
 }
 
-/// The octets, where they are the front of a packet that isn't there whole, and otherwise no octets.
-/// Then whether there is a first octet, and the packet version in it is another one than 0.
+/// Reads the octets after whole packets. Answers these octets where they are the front of a packet,
+/// and otherwise no octets. Then whether there is a first octet, and the packet version in it is
+/// another one than 0.
 pub(crate) fn read_remainder(octets: &[u8]) -> (&[u8], bool)
+    requires { (len : ℕ) → front_of octets.now ≢ WholePacket len }
     ensures incomplete { result.0.now ≡ incomplete_in (front_of octets.now) octets.now }
     ensures foreign { result.1 ≡ is_foreign octets.now }
 {
     match need(octets) {
-        Need::Header(_) | Need::Octets(_) => (octets, false),
         Need::Foreign => (&[], true),
-        // Not of the octets after whole packets. The contract speaks of any octets.
-        Need::Whole(_) => (&[], false),
+        _ => (octets, false),
     }
 }

@@ -219,6 +219,7 @@ fn started(held: &Outline, frame: &TmFrame) -> Taken
 }
 
 // As `started`, where `octets` are those of the data field from its first packet start on.
+#[tactic(auto, using(crate::proofs::lemmas::Delivery::Start::none_in_rest))]
 #[inline(always)]
 fn counted_from(octets: &[u8]) -> Taken
     requires { length octets.now ≤ longest_field }

@@ -5,8 +5,7 @@ ghost use Rattle.sl_packet.specs.Front.{front_of};
 ghost use Rattle.sl_packet.specs.Partial.{LacksOctets, need_of};
 ghost use Rattle.sl_tmframe.specs.TmFrame.{Packets, longest_field};
 ghost use Rattle.sl_tmflow.specs.Delivery.{agreeing_pointer, field_continuation, front_continuation};
-ghost use Rattle.sl_tmflow.specs.Incomplete.{longest_incomplete};
-ghost use Rattle.sl_tmflow.specs.Progress.{IsEnough, progress_continuation};
+ghost use Rattle.sl_tmflow.specs.Progress.{CanGoOn, IsEnough, progress_continuation};
 
 use crate::packet_octets::PacketOctets;
 use sl_packet::laws::needs_tell_packets;
@@ -30,7 +29,7 @@ pub(crate) enum Progress {
 // Inlined: `check` of TM frames takes 8 % fewer instructions.
 #[inline(always)]
 pub(crate) fn add_field(held: &mut Vec<u8>, field: &PacketOctets) -> Result<Progress, AllocError>
-    requires held { length held.old.items ≤ longest_incomplete }
+    requires held { CanGoOn held.old.items }
     requires short { length field.now.octets.now ≤ longest_field }
     // The answer is what the whole field does to the packet. A packet that ends is held whole.
     ensures continuation { IfOk result (λ progress. progress_continuation progress held.new.items
@@ -42,33 +41,31 @@ pub(crate) fn add_field(held: &mut Vec<u8>, field: &PacketOctets) -> Result<Prog
     // any case.
     ensures all { IfOk result (λ progress.
         progress ≡ Progress.Continues → held.new.items ≡ held.old.items ++ field.now.octets.now) }
-    ensures most { IfOk result (λ progress.
-        progress ≡ Progress.Continues → length held.new.items ≤ longest_incomplete) }
+    ensures goes_on { IfOk result (λ progress.
+        progress ≡ Progress.Continues → CanGoOn held.new.items) }
     ensures before { IfOk result (λ _.
         take (length held.old.items) held.new.items ≡ held.old.items) }
     ensures unchanged { OnErr result (held.new.items ≡ held.old.items) }
 {
     let before = held.len();
     let octets = field.octets;
-    let part = wanted(held.as_slice(), octets);
+    let part = needed_part(held.as_slice(), octets);
     add_part(held, part)?;
     Ok(progress_in(held.as_slice(), before, field))
 }
 
 // The first octets of a data field, as many as the incomplete packet needs. These are all octets of
 // the field where the packet needs more, or where its length isn't known yet.
-fn wanted<'a>(held: &[u8], field: &'a [u8]) -> &'a [u8]
-    requires held { length held.now ≤ longest_incomplete }
+fn needed_part<'a>(held: &[u8], field: &'a [u8]) -> &'a [u8]
+    requires held { CanGoOn held.now }
     requires short { length field.now ≤ longest_field }
     ensures { IsEnough held.now field.now result.now }
 {
     // For the proof alone, at no cost: the law that ties the `Need` of octets to their front.
     needs_tell_packets();
     match need(held) {
-        Need::Octets(wanted) if wanted as usize <= field.len() => &field[..wanted as usize],
-        Need::Header(_) | Need::Octets(_) => field,
-        // Not of an incomplete packet. The contract speaks of any octets.
-        Need::Foreign | Need::Whole(_) => &[],
+        Need::Octets(needed) if needed as usize <= field.len() => &field[..needed as usize],
+        _ => field,
     }
 }
 
@@ -80,7 +77,7 @@ fn progress_in(octets: &[u8], before: usize, field: &PacketOctets) -> Progress
     ensures continuation { progress_continuation result octets.now ≡ front_continuation
         field.now.first before field.now.octets.now octets.now (front_of octets.now) }
     ensures inside { (len : ℕ) → result ≡ Progress.Ends len → len ≤ length octets.now }
-    ensures short { result ≡ Progress.Continues → length octets.now ≤ longest_incomplete }
+    ensures goes_on { result ≡ Progress.Continues → CanGoOn octets.now }
 {
     progress_of(need(octets), before, field)
 }
@@ -96,21 +93,13 @@ pub(crate) fn progress_of(need: Need, before: usize, field: &PacketOctets) -> Pr
     ensures whole { (len : ℕ) → result ≡ Progress.Ends len → need ≡ Need.Whole len }
     ensures short { result ≡ Progress.Continues → LacksOctets need }
 {
-    let pointer = field.first;
-    let field = field.octets;
+    let pointer = field.first.map(usize::from);
     match need {
-        // Not of an incomplete packet. The contract speaks of any octets.
-        Need::Foreign => Progress::Breaks,
-        Need::Header(_) | Need::Octets(_) if pointer.is_some() => Progress::Breaks,
-        Need::Header(_) | Need::Octets(_) => Progress::Continues,
-        Need::Whole(len) => {
-            let len = len as usize;
-            if pointer.map(usize::from) == agreeing_pointer(len, before, field) {
-                Progress::Ends(len)
-            } else {
-                Progress::Breaks
-            }
+        Need::Whole(len) if pointer == agreeing_pointer(len as usize, before, field.octets) => {
+            Progress::Ends(len as usize)
         }
+        Need::Header(_) | Need::Octets(_) if pointer.is_none() => Progress::Continues,
+        _ => Progress::Breaks,
     }
 }
 
@@ -122,7 +111,8 @@ fn agreeing_pointer(len: usize, before: usize, field: &[u8]) -> Option<usize>
     ensures { result ≡ agreeing_pointer len before field.now }
 {
     if len < before + field.len() {
-        // `len` is at least `before` for an incomplete packet. The contract speaks of any numbers.
+        // `len` is at least `before`, since the packet was incomplete before the field. No `requires`
+        // says so, as the outline of a packet's octets doesn't tell it.
         Some(len.saturating_sub(before))
     } else {
         None

@@ -52,7 +52,7 @@ goes_on s octet octets = grind arith
 not_past_start : (pointer before : ℕ) (field all : List ℕ) (f : Front) → octets_held (front_continuation (Some pointer) before field all f) all ≡ []
 not_past_start pointer before field all f = grind arith
 
-none_kept : (count : Option ℕ) (held : List ℕ) (next : TmView) (pointer : ℕ) (octets : List ℕ) → next.field ≡ Packets (Some pointer) octets
+pub none_kept : (count : Option ℕ) (held : List ℕ) (next : TmView) (pointer : ℕ) (octets : List ℕ) → next.field ≡ Packets (Some pointer) octets
     → held_before_starts (held_continuation count held next) held next ≡ []
 none_kept count held next pointer octets is = grind (arith, not_past_start)
 

@@ -1,10 +1,10 @@
 -- The octets of a data field that decide what happens to an incomplete packet.
-use Rattle.std.proofs.Common.{◌≡◌, ℕ, ◌+◌, ◌≤◌, ◌⊎◌, List, [], ◌++◌, length, take, drop, Option, ◌∙◌, ap, arith, append-nil, append_assoc, length-append}
+use Rattle.std.proofs.Common.{◌≡◌, ℕ, ◌+◌, ◌≤◌, List, ◌++◌, length, take, drop, Option, ◌∙◌, ap, arith, append-nil, append_assoc, length-append}
 use Rattle.std.proofs.lemmas.Grind.{common_steps}
 use Rattle.std.proofs.lemmas.List.{length-replicate, length-take-le, take-append-drop, take-append-le}
 use Rattle.sl_packet.specs.Front.{Incomplete, WholePacket, front_of}
-use Rattle.sl_packet.specs.Partial.{ForeignIsForeign, WholeIsWhole, OctetsMakeAPacket, need_of}
-use Rattle.sl_packet.specs.declared.partial.Need.TheVariants.{Foreign, Octets, Whole}
+use Rattle.sl_packet.specs.Partial.{OctetsMakeAPacket, need_of}
+use Rattle.sl_packet.specs.declared.partial.Need.TheVariants.{Octets}
 use Rattle.sl_packet.proofs.FrontLemmas.{whole_is_a_packet, packet_is_whole, foreign_is_no_packet}
 use Rattle.sl_tmflow.specs.Delivery.{front_continuation}
 use Rattle.sl_tmflow.specs.Progress.{IsEnough}
@@ -39,15 +39,6 @@ some_is_enough held field n begun fits = record {
   all = λ incomplete. absurd (begun incomplete);
   fits = fits;
 }
-
--- no octet of the field is needed where the packet isn't incomplete before the field
-pub none_is_enough : (held field : List ℕ) → (front_of held ≡ Incomplete → ⊥) → length held ≤ 65542 → IsEnough held field []
-none_is_enough held field begun fits = grind (arith, common_steps, some_is_enough, append-nil)
-
--- octets that need no more aren't incomplete
-pub none_is_wanted : ForeignIsForeign → WholeIsWhole → (held : List ℕ) → (need_of held ≡ Foreign) ⊎ ((len : ℕ) × (need_of held ≡ Whole len))
-    → front_of held ≡ Incomplete → ⊥
-none_is_wanted foreign whole held needs_none incomplete = grind arith
 
 -- with the octets that it needs, a packet is no longer incomplete
 pub wanted_complete : OctetsMakeAPacket → (held more : List ℕ) (n : ℕ) → need_of held ≡ Octets n → length more ≡ n → front_of (held ++ more) ≡ Incomplete → ⊥

@@ -16,6 +16,8 @@ use Rattle.sl_tmflow.specs.Among.{IsAmong}
 use Rattle.sl_tmflow.specs.VirtualChannel.{packet_data, data_of, reassembly}
 use Rattle.sl_tmflow.specs.PacketStart.{IsStart, starts_of}
 use Rattle.sl_tmflow.specs.Delivery.{Outcome, StillIncomplete, outcome_of_front, outcome_of}
+use Rattle.sl_tmflow.specs.Channel.{incomplete_in}
+use Rattle.sl_tmflow.specs.Progress.{CanGoOn}
 use Rattle.sl_tmflow.specs.Incomplete.{HasNoStart, IsIncomplete, IsIncompleteAt, incomplete_octets, incomplete_of, EachListedIsIncomplete, EachIncompleteIsListed, OneIsIncomplete, IncompleteIsShort, IncompleteIsCounted, WhatIsCountedIsIncomplete}
 use Rattle.sl_fields.proofs.ListLemmas.{each-weaker}
 use Rattle.sl_tmflow.proofs.lemmas.Places.{count_of_one, some_of_each}
@@ -175,6 +177,15 @@ fewer_than_stated octets incomplete = grind (arith, ltb-true)
 -- a header states 65,542 octets at most
 pub stated_packet_len-most : (octets : List ℕ) → stated_packet_len octets ≤ 65542
 stated_packet_len-most octets = omega arith
+
+-- what is kept of octets after packets can go on
+kept_of : (octets : List ℕ) (f : Front) → front_of octets ≡ f → CanGoOn (incomplete_in f octets)
+kept_of octets Incomplete is = record { incomplete = is; few = omega (arith, fewer_than_stated octets is, stated_packet_len-most octets) }
+kept_of octets OtherVersion is = record { incomplete = refl; few = omega arith }
+kept_of octets (WholePacket len) is = record { incomplete = refl; few = omega arith }
+
+pub kept_can_go_on : (octets held : List ℕ) → held ≡ incomplete_in (front_of octets) octets → CanGoOn held
+kept_can_go_on octets held is = subst CanGoOn (sym is) (kept_of octets (front_of octets) refl)
 
 pub incomplete_is_short : IncompleteIsShort
 incomplete_is_short channel = grind (arith, common_steps, each-weaker, length-append, length-drop, fewer_than_stated, begins_packet, stated_packet_len-most, each_listed_is_incomplete)

@@ -28,7 +28,7 @@ static PRESET: [u8; 48] = [
 
 /// One slice whose remainder is the frame error control field of these octets.
 #[inline(always)]
-pub(crate) fn folded(octets: &[u8]) -> u8x16
+pub fn folded(octets: &[u8]) -> u8x16
     requires { 16 ≤ length octets.now }
     ensures { part_of 0 result ≡ fecf_of octets.now }
 {

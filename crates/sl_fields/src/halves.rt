@@ -20,7 +20,7 @@ use std::simd::prelude::*;
 
 /// Two octets whose remainder is that of this slice.
 #[inline(always)]
-pub(crate) fn last_two(slice: u8x16) -> [u8; 2]
+pub fn last_two(slice: u8x16) -> [u8; 2]
     ensures { part_of 0 result ≡ part_of 0 slice }
 {
     let octets = slice.to_array();

@@ -3,7 +3,7 @@
 /// At index `n` the word of the octet `n`, as two octets, the most significant first. The word is
 /// the remainder, by the generator x^16 + x^12 + x^5 + 1 and without preset, of the octet's eight
 /// bits and sixteen zeros after them.
-pub(crate) static WORDS: [[u8; 2]; 256] = [
+pub static WORDS: [[u8; 2]; 256] = [
     [0x00, 0x00],
     [0x10, 0x21],
     [0x20, 0x42],

@@ -48,7 +48,7 @@ const ONE: [&str; 2] = [FIRST, TEN_FILLED];
 const ONE_WITH_FECF: [&str; 3] = [FIRST, TEN_FILLED, "5e0c"];
 
 // Recordings and their normal forms.
-pub(super) const CASES: [(&[&str], &[&str]); 23] = [
+pub const CASES: [(&[&str], &[&str]); 23] = [
     (&[], &[]),
     (&ONE, &ONE),
     // Other counts, and an idle packet with other sequence flags and data.

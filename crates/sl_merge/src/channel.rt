@@ -174,14 +174,14 @@ fn has_reasons(items: &[Item], is_turned: bool) -> bool
 }
 
 // Whether a frame is left out and is the one before it once more.
-pub(crate) fn is_repeat(before: &[u8], item: &Item) -> bool
+pub fn is_repeat(before: &[u8], item: &Item) -> bool
     ensures { result ≡ is_repeat before.now item.now }
 {
     item.is_left_out() && before == item.frame()
 }
 
 // The frame before the next one of the recording.
-pub(crate) fn before_after<'a>(before: &'a [u8], item: &Item<'a>) -> &'a [u8]
+pub fn before_after<'a>(before: &'a [u8], item: &Item<'a>) -> &'a [u8]
     ensures { result.now ≡ before_after before.now item.now }
 {
     if item.fate().is_of_first() {

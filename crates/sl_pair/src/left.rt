@@ -74,7 +74,7 @@ impl<'a> Left<'a> {
 }
 
 /// Adds the copies at one place each.
-pub(crate) fn push_places<'a, S: BuildHasher>(
+pub fn push_places<'a, S: BuildHasher>(
     left: &mut Vec<Left<'a>>,
     places: &'a HashMap<Octets, Place, S>,
 ) -> Result<(), AllocError>
@@ -89,7 +89,7 @@ pub(crate) fn push_places<'a, S: BuildHasher>(
 }
 
 /// Adds the copies at the places in queues, each queue from its front on.
-pub(crate) fn push_queues<'a, S: BuildHasher>(
+pub fn push_queues<'a, S: BuildHasher>(
     left: &mut Vec<Left<'a>>,
     queues: &'a HashMap<Octets, VecDeque<Place>, S>,
 ) -> Result<(), AllocError>

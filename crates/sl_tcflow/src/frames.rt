@@ -12,21 +12,21 @@ use std::alloc::AllocError;
 
 /// What the headers of a packet's frames have in common, and the N(S) of the first frame.
 #[derive(Clone, Copy)]
-pub(crate) struct Heading {
+pub struct Heading {
     /// The spacecraft identifier, 0 to 1023.
-    pub(crate) spacecraft: u16,
+    pub spacecraft: u16,
     /// The channel of the packet, 0 to 4095: 64 times its virtual channel plus its MAP.
-    pub(crate) channel: u16,
+    pub channel: u16,
     /// Whether the frames of the virtual channel have no segment headers.
-    pub(crate) plain: bool,
+    pub plain: bool,
     /// The N(S) of the first frame, 0 to 255.
-    pub(crate) ns: u8,
+    pub ns: u8,
 }
 
 // Adds the frames of a packet on a virtual channel with segment headers to the end of `form`.
 // Answers the N(S) of the frame after them. (A packet on a virtual channel without them is one
 // frame, which the caller adds itself: `heading.plain` isn't read here.)
-pub(crate) fn push_packet(
+pub fn push_packet(
     form: &mut Vec<u8>,
     shape: &TcShape,
     heading: Heading,

@@ -23,8 +23,7 @@
 // From the bottom: `segment`, `report`, `hand_over`, `incomplete`, `series_store`, `farms` and
 // `receiver` take packets out of frames; `unit_count`, `series_count`, `count_store` and
 // `unit_counter` count them; `frames`, `form` and `reframe` write frames, and `fits` tests which
-// packets these can carry. A `pub fn` of these modules is public only in `laws`, or if
-// it or its type stands in a `pub use` below; specs call the others private.
+// packets these can carry.
 mod count_store;
 mod farms;
 mod fits;

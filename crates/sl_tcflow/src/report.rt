@@ -22,7 +22,7 @@ pub struct TcStep {
 
 /// The report on an accepted frame whose unit ends no service data unit and has no anomaly, before
 /// its MAP is filled in.
-pub(crate) const EMPTY_STEP: TcStep = TcStep {
+pub const EMPTY_STEP: TcStep = TcStep {
     verdict: Verdict::Accept,
     map: 0,
     packets: 0,

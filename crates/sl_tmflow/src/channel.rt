@@ -27,7 +27,7 @@ use std::marker::Model;
 
 /// What is kept of a virtual channel after its last frame.
 #[derive(Drop)]
-pub(crate) struct Channel {
+pub struct Channel {
     // The virtual channel frame count of the last frame, and `None` before the first one.
     count: Option<u8>,
     // The octets so far of the incomplete packet, at most 65,541. Empty where no packet is
@@ -49,7 +49,7 @@ impl Model for Channel {
 
 impl Channel {
     /// A virtual channel that had no frame yet.
-    pub(crate) fn new(alloc: Global) -> Channel
+    pub fn new(alloc: Global) -> Channel
         ensures { result ≡ new_channel }
     {
         Channel {
@@ -62,7 +62,7 @@ impl Channel {
     /// report on the frame. After a fault no clause says what the state is, and the extractor
     /// doesn't read it any more.
     #[tactic(auto, using(crate::proofs::lemmas::Delivery::Channel::none_kept))]
-    pub(crate) fn take_frame<S: PacketSink>(
+    pub fn take_frame<S: PacketSink>(
         &mut self,
         frame: &TmFrame,
         sink: &mut S,
@@ -106,7 +106,7 @@ impl Channel {
     }
 
     /// The number of octets so far of the incomplete packet, and 0 where no packet is incomplete.
-    pub(crate) fn held(&self) -> u32
+    pub fn held(&self) -> u32
         ensures value { result ≡ length self.now.state.held }
         ensures most { result ≤ longest_incomplete }
     {
@@ -290,7 +290,7 @@ impl Channel {
 /// Reads the octets after whole packets. Answers these octets where they are the front of a packet,
 /// and otherwise no octets. Then whether there is a first octet, and the packet version in it is
 /// another one than 0.
-pub(crate) fn read_remainder(octets: &[u8]) -> (&[u8], bool)
+pub fn read_remainder(octets: &[u8]) -> (&[u8], bool)
     requires { (len : ℕ) → front_of octets.now ≢ WholePacket len }
     ensures incomplete { result.0.now ≡ incomplete_in (front_of octets.now) octets.now }
     ensures foreign { result.1 ≡ is_foreign octets.now }

@@ -23,7 +23,7 @@ use sl_tmframe::{TmField, TmFrame};
 
 /// What is kept of a virtual channel after its last frame, where packets are only counted.
 #[derive(Clone, Copy)]
-pub(crate) struct ChannelOutline {
+pub struct ChannelOutline {
     // The virtual channel frame count of the last frame, and `None` before the first one.
     count: Option<u8>,
     // The outline of the octets so far of the incomplete packet, of no octets where none is.
@@ -35,7 +35,7 @@ impl ChannelOutline {
     ghost use Rattle.sl_tmflow.specs.Counter.{Outlines};
 
     /// A virtual channel that had no frame yet.
-    pub(crate) fn new() -> ChannelOutline
+    pub fn new() -> ChannelOutline
         ensures { Outlines result no_frame }
     {
         ChannelOutline {
@@ -47,7 +47,7 @@ impl ChannelOutline {
     /// Takes the next frame, and answers the report on the frame. A clause with `state` holds of
     /// every state that this is the outline of.
     #[inline(always)]
-    pub(crate) fn take_frame(&mut self, frame: &TmFrame) -> TmStep
+    pub fn take_frame(&mut self, frame: &TmFrame) -> TmStep
         // The state after the frame, and the packets that end in it.
         ensures state { (state : ChannelState) → Outlines self.old state
             → Outlines self.new (channel_after state frame.now) }
@@ -81,7 +81,7 @@ impl ChannelOutline {
     }
 
     /// The number of octets so far of the incomplete packet, and 0 where no packet is incomplete.
-    pub(crate) fn held(&self) -> u32
+    pub fn held(&self) -> u32
         ensures value { result ≡ self.now.held.octets }
         ensures most { result ≤ longest_incomplete }
     {

@@ -7,7 +7,7 @@ ghost use Rattle.sl_tmflow.specs.Channel.{is_after};
 /// The count that was expected after the last one, if `count` is another. `None` if it isn't, and
 /// where no frame came before.
 #[inline(always)]
-pub(crate) fn gap_after(last: Option<u8>, count: u8) -> Option<u8>
+pub fn gap_after(last: Option<u8>, count: u8) -> Option<u8>
     ensures { result ≡ gap_after last count }
 {
     if is_after(last, count) {
@@ -20,7 +20,7 @@ pub(crate) fn gap_after(last: Option<u8>, count: u8) -> Option<u8>
 /// Whether a frame with this count follows the last frame. No frame follows where there was none
 /// before.
 #[inline(always)]
-pub(crate) fn is_after(last: Option<u8>, count: u8) -> bool
+pub fn is_after(last: Option<u8>, count: u8) -> bool
     ensures { result ≡ is_after last count }
 {
     match last {

@@ -11,11 +11,7 @@ use sl_packet::{FlowFault, PacketSink, hand_over, is_idle};
 
 /// Hands the sink a packet of the virtual channel `vc`, 0 to 7, unless the packet is idle. The
 /// report counts this packet alone.
-pub(crate) fn hand_packet<S: PacketSink>(
-    sink: &mut S,
-    vc: u16,
-    packet: &[u8],
-) -> Result<TmStep, FlowFault>
+pub fn hand_packet<S: PacketSink>(sink: &mut S, vc: u16, packet: &[u8]) -> Result<TmStep, FlowFault>
     requires vc { vc ≤ 7 }
     requires packet { IsPacket packet.now }
     // An idle packet is counted. Any other packet is handed over and counted. `HandsOver` of
@@ -46,7 +42,7 @@ pub(crate) fn hand_packet<S: PacketSink>(
 /// Hands the sink the packets that lie end to end at the front of `octets`, without idle packets.
 /// They are packets of the virtual channel `vc`, 0 to 7. The answer is the report that counts them,
 /// and the octets after them.
-pub(crate) fn hand<'a, S: PacketSink>(
+pub fn hand<'a, S: PacketSink>(
     sink: &mut S,
     vc: u16,
     octets: &'a [u8],

@@ -11,8 +11,7 @@
 
 // From the bottom: `packet_octets`, `report`, `frame_count`, `hand_over`, `progress`, `channel` and
 // `extractor` take packets out of frames; `channel_outline` and `counter` count them; `form` and
-// `reframe` write frames, with `packet_octets`. What is `pub` in them is public; specs call all
-// other functions private.
+// `reframe` write frames, with `packet_octets`.
 mod channel;
 mod channel_outline;
 mod counter;

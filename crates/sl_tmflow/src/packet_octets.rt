@@ -4,7 +4,7 @@
 /// starts, or `None` where no packet starts in them. For one data field the offset is the frame's
 /// first header pointer.
 #[derive(Clone, Copy)]
-pub(crate) struct PacketOctets<'a> {
-    pub(crate) first: Option<u16>,
-    pub(crate) octets: &'a [u8],
+pub struct PacketOctets<'a> {
+    pub first: Option<u16>,
+    pub octets: &'a [u8],
 }

@@ -14,7 +14,7 @@ use std::alloc::AllocError;
 
 /// What a frame of packets does to an incomplete packet.
 #[derive(Clone, Copy)]
-pub(crate) enum Progress {
+pub enum Progress {
     /// The packet ends in the frame, and has this number of octets in all.
     Ends(usize),
     /// The packet goes on past the frame.
@@ -28,7 +28,7 @@ pub(crate) enum Progress {
 /// frame with this field does to the packet. Where memory is refused, no octets are added.
 // Inlined: `check` of TM frames takes 8 % fewer instructions.
 #[inline(always)]
-pub(crate) fn add_field(held: &mut Vec<u8>, field: &PacketOctets) -> Result<Progress, AllocError>
+pub fn add_field(held: &mut Vec<u8>, field: &PacketOctets) -> Result<Progress, AllocError>
     requires held { CanGoOn held.old.items }
     requires short { length field.now.octets.now ≤ longest_field }
     // The answer is what the whole field does to the packet. A packet that ends is held whole.
@@ -85,7 +85,7 @@ fn progress_in(octets: &[u8], before: usize, field: &PacketOctets) -> Progress
 /// What the frame with this data field does to an incomplete packet. `need` is what its octets
 /// need: `before` octets from earlier frames, and then those of the field.
 #[inline(always)]
-pub(crate) fn progress_of(need: Need, before: usize, field: &PacketOctets) -> Progress
+pub fn progress_of(need: Need, before: usize, field: &PacketOctets) -> Progress
     requires { before + length field.now.octets.now < 2 ^ 64 }
     ensures continuation { (octets : List ℕ) → need ≡ need_of octets
         → progress_continuation result octets ≡ front_continuation

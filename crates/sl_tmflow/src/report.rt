@@ -29,7 +29,7 @@ impl Model for TmStep {
 }
 
 /// The report on a frame in which no packet ends and that has no anomaly.
-pub(crate) const EMPTY_STEP: TmStep = TmStep {
+pub const EMPTY_STEP: TmStep = TmStep {
     packets: 0,
     idle: 0,
     gap: None,

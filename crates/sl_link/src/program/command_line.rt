@@ -19,11 +19,11 @@ use thiserror::Error;
 
 /// What a command line asks for.
 #[derive(Clone, Copy)]
-pub(crate) struct Asked {
-    pub(crate) verb: VerbName,
-    pub(crate) kind: RecordingKind,
+pub struct Asked {
+    pub verb: VerbName,
+    pub kind: RecordingKind,
     /// The managed parameters of the link, or the first of them that is refused.
-    pub(crate) managed: Result<Managed, RefusedParameter>,
+    pub managed: Result<Managed, RefusedParameter>,
 }
 
 /// Which parameter of the link is refused.
@@ -93,7 +93,7 @@ Example:
 
 /// What the words ask for; the first word is the program's name. The error says why they are
 /// refused, or that they ask for help or the version, or that memory was refused.
-pub(crate) fn parse(alloc: Global, words: &[String]) -> Result<Asked, clap::Error>
+pub fn parse(alloc: Global, words: &[String]) -> Result<Asked, clap::Error>
     ensures asked { IfOk result (AskFor (map string_bytes words.now)) }
     // The kind of the error is one of the refusals, unless memory ran out.
     ensures refused { IfErr result (λ error. (kind_of error ≡ ErrorKind.OutOfMemory)

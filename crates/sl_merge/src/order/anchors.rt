@@ -20,7 +20,7 @@ enum Twin {
 }
 
 /// Finds the anchors, which have to lie in one order, and gives all frames their brackets.
-pub(crate) fn set_anchors<S: BuildHasher + Copy>(
+pub fn set_anchors<S: BuildHasher + Copy>(
     alloc: Global,
     hasher: S,
     both: &Both<'_>,

@@ -7,7 +7,7 @@ use std::alloc::AllocError;
 
 /// The frames of a channel that are next in both recordings, by their brackets.
 #[derive(Clone, Copy, Debug, PartialEq, Eq)]
-pub(crate) enum Group {
+pub enum Group {
     /// There are none.
     End,
     /// An anchor.
@@ -22,7 +22,7 @@ pub(crate) enum Group {
 
 /// The frames of a channel that aren't in order yet.
 #[derive(Clone, Copy)]
-pub(crate) struct Channel<'a> {
+pub struct Channel<'a> {
     firsts: &'a [Mark],
     seconds: &'a [Mark],
     // The count of the frame before them.

@@ -8,7 +8,7 @@ use std::alloc::AllocError;
 
 /// How much is chosen where the counts leave an order open.
 #[derive(Clone, Copy, Debug, PartialEq, Eq)]
-pub(crate) enum Care {
+pub enum Care {
     /// The likeliest way is taken.
     Likeliest,
     /// The order goes by the master channel frame counts between the anchors of all channels.
@@ -20,7 +20,7 @@ pub(crate) enum Care {
 
 /// What was chosen for a stretch.
 #[derive(Clone, Copy, Debug, PartialEq, Eq)]
-pub(crate) enum Choice {
+pub enum Choice {
     /// Nothing: its order is known.
     Nothing,
     /// Which of some equal idle frames are the same.
@@ -35,7 +35,7 @@ pub(crate) enum Choice {
 
 /// Chooses an order of a stretch, in place of the one that was found where that isn't enough.
 /// Frames may be left out only where `may_leave_out` is set.
-pub(crate) fn choose(
+pub fn choose(
     both: &Both<'_>,
     stretch: &Stretch<'_>,
     (known, care): (Known, Care),
@@ -78,7 +78,7 @@ fn stand_apart(
 }
 
 /// Whether a stretch has idle frames alone.
-pub(crate) fn is_idle(both: &Both<'_>, stretch: &Stretch<'_>) -> bool {
+pub fn is_idle(both: &Both<'_>, stretch: &Stretch<'_>) -> bool {
     stretch
         .firsts
         .iter()

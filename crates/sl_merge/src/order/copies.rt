@@ -32,7 +32,7 @@ impl Recent {
 /// How many frames of one recording alone stand near one of the other recording alone that is
 /// nearly equal: the header of one of them is damaged. Frames with an error control field are none,
 /// and neither are idle frames, which are nearly equal anyway.
-pub(crate) fn count_copies(both: &Both<'_>, fates: &[Fate]) -> u64 {
+pub fn count_copies(both: &Both<'_>, fates: &[Fate]) -> u64 {
     if both.one.fecf() {
         return 0;
     }

@@ -15,7 +15,7 @@ const CHANNELS: u8 = 8;
 
 /// The frames of both recordings.
 #[derive(Drop)]
-pub(crate) struct Frames {
+pub struct Frames {
     pub firsts: Vec<Seen>,
     pub seconds: Vec<Seen>,
 }
@@ -38,7 +38,7 @@ fn put_back(frames: &mut [Seen]) {
 
 /// For how many stretches something was chosen.
 #[derive(Clone, Copy, Debug, PartialEq, Eq)]
-pub(crate) struct Choices {
+pub struct Choices {
     pub idle: u64,
     pub outages: u64,
     pub orders: u64,
@@ -70,7 +70,7 @@ impl Choices {
 
 /// Puts the frames of each channel in order: a lane a channel, with the fates of its frames that
 /// stand. The others are marked in `frames`.
-pub(crate) fn order_lanes(
+pub fn order_lanes(
     alloc: Global,
     both: &Both<'_>,
     frames: &mut Frames,

@@ -4,7 +4,7 @@ use std::alloc::{AllocError, Global};
 
 /// A frame of a recording on one channel.
 #[derive(Clone, Copy)]
-pub(crate) struct Mark {
+pub struct Mark {
     /// Its place in the recording.
     pub place: u32,
     /// Twice the number of anchors before it, of all channels, and one more for an anchor.
@@ -17,13 +17,13 @@ pub(crate) struct Mark {
 
 /// The counts of the frames around some frames, where there are any.
 #[derive(Clone, Copy)]
-pub(crate) struct Ends {
+pub struct Ends {
     pub left: Option<u8>,
     pub right: Option<u8>,
 }
 
 /// The frames of a channel that stand.
-pub(crate) fn marks_on(alloc: Global, frames: &[Seen], vc: u8) -> Result<Vec<Mark>, AllocError> {
+pub fn marks_on(alloc: Global, frames: &[Seen], vc: u8) -> Result<Vec<Mark>, AllocError> {
     let mut marks = Vec::new(alloc);
     let mut place = 0u32;
     for seen in frames {
@@ -41,12 +41,12 @@ pub(crate) fn marks_on(alloc: Global, frames: &[Seen], vc: u8) -> Result<Vec<Mar
 }
 
 /// How many frames later another count comes, 1 to 256.
-pub(crate) fn step(one: u8, other: u8) -> u16 {
+pub fn step(one: u8, other: u8) -> u16 {
     u16::from(other.wrapping_sub(one).wrapping_sub(1)) + 1
 }
 
 /// How far the frame after some frames is from the one before them, by the counts.
-pub(crate) fn width(marks: &[Mark], left: u8, right: u8) -> i64 {
+pub fn width(marks: &[Mark], left: u8, right: u8) -> i64 {
     let mut last = left;
     let mut width = 0i64;
     for mark in marks {
@@ -57,7 +57,7 @@ pub(crate) fn width(marks: &[Mark], left: u8, right: u8) -> i64 {
 }
 
 /// How many frames at the front have this bracket.
-pub(crate) fn count_in(marks: &[Mark], bracket: u32) -> usize {
+pub fn count_in(marks: &[Mark], bracket: u32) -> usize {
     marks
         .iter()
         .take_while(|mark| mark.bracket == bracket)
@@ -65,18 +65,18 @@ pub(crate) fn count_in(marks: &[Mark], bracket: u32) -> usize {
 }
 
 /// The frames at the front.
-pub(crate) fn front(marks: &[Mark], count: usize) -> &[Mark] {
+pub fn front(marks: &[Mark], count: usize) -> &[Mark] {
     marks.get(..count).unwrap_or(marks)
 }
 
 /// The frames behind those at the front.
-pub(crate) fn behind(marks: &[Mark], count: usize) -> &[Mark] {
+pub fn behind(marks: &[Mark], count: usize) -> &[Mark] {
     marks.get(count..).unwrap_or(&[])
 }
 
 /// A place at which frames that came after it are pushed on by a number: those lost in an outage.
 #[derive(Clone, Copy)]
-pub(crate) struct Outage {
+pub struct Outage {
     /// How many of the frames came before it.
     pub before: usize,
     /// How many frames were lost beyond what the counts tell.
@@ -84,11 +84,11 @@ pub(crate) struct Outage {
 }
 
 /// No outage.
-pub(crate) const NO_OUTAGE: Outage = Outage { before: 0, lost: 0 };
+pub const NO_OUTAGE: Outage = Outage { before: 0, lost: 0 };
 
 /// Frames of one channel, numbered by their counts.
 #[derive(Clone, Copy)]
-pub(crate) struct Numbered<'a> {
+pub struct Numbered<'a> {
     marks: &'a [Mark],
     number: i64,
     passed: usize,

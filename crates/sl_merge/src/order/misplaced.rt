@@ -9,7 +9,7 @@ const FEW: usize = 8;
 
 /// Leaves out a few frames of one recording alone that stand between two of the other whose counts
 /// follow, and returns how many. It is for frames without an error control field.
-pub(crate) fn leave_misplaced(
+pub fn leave_misplaced(
     alloc: Global,
     firsts: &[Mark],
     seconds: &[Mark],

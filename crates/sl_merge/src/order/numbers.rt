@@ -8,7 +8,7 @@ use std::alloc::AllocError;
 
 /// Two recordings, of which frames are merged.
 #[derive(Clone, Copy)]
-pub(crate) struct Both<'a> {
+pub struct Both<'a> {
     pub one: Recording<'a>,
     pub other: Recording<'a>,
 }
@@ -28,7 +28,7 @@ impl<'a> Both<'a> {
 
 /// Puts the frames of two recordings on one channel in the order of their numbers, into `fates`.
 /// Answers whether the frames allow it: equal numbers have equal octets, and the brackets rise.
-pub(crate) fn order_by_number(
+pub fn order_by_number(
     both: &Both<'_>,
     mut firsts: Numbered<'_>,
     mut seconds: Numbered<'_>,
@@ -98,7 +98,7 @@ fn fate_of_same(both: &Both<'_>, one: &Mark, other: &Mark) -> Option<(Fate, u32)
 }
 
 /// Puts the frames of a stretch in the order of their positions, into `fates`.
-pub(crate) fn order_by_position(
+pub fn order_by_position(
     both: &Both<'_>,
     stretch: &Stretch<'_>,
     fates: &mut Vec<Fate>,
@@ -120,7 +120,7 @@ pub(crate) fn order_by_position(
 
 /// Puts the frames of a stretch in the order of their brackets, into `fates`: of one bracket those
 /// of one recording, which `earlier` names, before the other's.
-pub(crate) fn order_by_bracket(
+pub fn order_by_bracket(
     stretch: &Stretch<'_>,
     earlier: Fate,
     fates: &mut Vec<Fate>,

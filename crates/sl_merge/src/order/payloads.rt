@@ -19,7 +19,7 @@ struct Slot {
 
 /// The payloads of a recording.
 #[derive(Drop)]
-pub(crate) struct Payloads<'a, S> {
+pub struct Payloads<'a, S> {
     hasher: S,
     recording: Recording<'a>,
     slots: Vec<Slot>,
@@ -27,7 +27,7 @@ pub(crate) struct Payloads<'a, S> {
 
 /// What became of a payload that was to be kept.
 #[derive(Clone, Copy)]
-pub(crate) enum Kept {
+pub enum Kept {
     /// It is new.
     New,
     /// The frame at this place has it too.

@@ -21,11 +21,7 @@ struct Reach {
 /// had an outage in its widest gap. Before the first anchor frames are placed from it back. With
 /// `parts` the one with the widest gap before the first anchor, or behind the last one, had an outage
 /// there, during which the other has all its frames.
-pub(crate) fn set_positions(
-    alloc: Global,
-    frames: &mut Frames,
-    parts: bool,
-) -> Result<(), AllocError> {
+pub fn set_positions(alloc: Global, frames: &mut Frames, parts: bool) -> Result<(), AllocError> {
     let firsts = reaches(alloc, &mut frames.firsts)?;
     let seconds = reaches(alloc, &mut frames.seconds)?;
     align(&mut frames.firsts, &firsts, &seconds);

@@ -3,7 +3,7 @@ use sl_tmframe::TmShape;
 
 /// The octets of a recording, and how its frames are laid out.
 #[derive(Clone, Copy)]
-pub(crate) struct Recording<'a> {
+pub struct Recording<'a> {
     octets: &'a [u8],
     len: usize,
     fecf: bool,
@@ -13,7 +13,7 @@ pub(crate) struct Recording<'a> {
 /// its octets without the first four, the operational control field and the frame error control
 /// field.
 #[derive(Clone, Copy)]
-pub(crate) struct Payload<'a> {
+pub struct Payload<'a> {
     pub vc: u8,
     pub octets: &'a [u8],
 }
@@ -69,7 +69,7 @@ impl<'a> Recording<'a> {
 }
 
 /// Whether two frames differ in at most a tenth of their bits.
-pub(crate) fn are_near(one: &[u8], other: &[u8]) -> bool {
+pub fn are_near(one: &[u8], other: &[u8]) -> bool {
     let mut wrong = 0usize;
     for (octet, counterpart) in one.iter().zip(other) {
         wrong = wrong.saturating_add((octet ^ counterpart).count_ones() as usize);

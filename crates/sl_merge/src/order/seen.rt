@@ -7,7 +7,7 @@ use std::alloc::{AllocError, Global};
 
 /// What a frame is to the order.
 #[derive(Clone, Copy, Debug, PartialEq, Eq)]
-pub(crate) enum Role {
+pub enum Role {
     /// It is skipped, and left out.
     Skipped,
     /// It is its predecessor on its channel once more, and left out.
@@ -23,7 +23,7 @@ pub(crate) enum Role {
 
 /// A frame of a recording.
 #[derive(Clone, Copy)]
-pub(crate) struct Seen {
+pub struct Seen {
     /// Twice the number of anchors before it, and one more for an anchor.
     pub bracket: u32,
     /// How far it is behind the anchor before it, of all channels.
@@ -44,7 +44,7 @@ impl Seen {
 }
 
 /// The frames of a recording, of which skipped frames and repeats are left out.
-pub(crate) fn seen_frames(
+pub fn seen_frames(
     alloc: Global,
     shape: &TmShape,
     spacecraft: u16,

@@ -13,7 +13,7 @@ const CLEARLY: u64 = 32;
 /// Frames of both recordings on one channel, each recording's in its order, and the counts around
 /// them.
 #[derive(Clone, Copy)]
-pub(crate) struct Stretch<'a> {
+pub struct Stretch<'a> {
     pub firsts: &'a [Mark],
     pub seconds: &'a [Mark],
     pub ends: Ends,
@@ -33,7 +33,7 @@ impl Stretch<'_> {
 
 /// What is known of an order.
 #[derive(Clone, Copy, Debug, PartialEq, Eq)]
-pub(crate) enum Known {
+pub enum Known {
     /// The counts tell it.
     Sure,
     /// The counts tell it, but for which of some equal idle frames are the same.
@@ -48,7 +48,7 @@ pub(crate) enum Known {
 }
 
 /// Finds an order of the frames, into `fates`.
-pub(crate) fn order_stretch(
+pub fn order_stretch(
     alloc: Global,
     both: &Both<'_>,
     stretch: &Stretch<'_>,

@@ -7,14 +7,14 @@ use std::alloc::AllocError;
 
 /// The frames of a stretch that weren't taken yet.
 #[derive(Clone, Copy)]
-pub(crate) struct Left<'a> {
+pub struct Left<'a> {
     pub firsts: &'a [Mark],
     pub seconds: &'a [Mark],
 }
 
 /// The frames that a fate takes.
 #[derive(Clone, Copy)]
-pub(crate) struct Taken {
+pub struct Taken {
     pub first: Option<Mark>,
     pub second: Option<Mark>,
 }
@@ -51,7 +51,7 @@ impl<'a> Left<'a> {
 }
 
 /// The count of the last frame of an order that stands.
-pub(crate) fn last_count(stretch: &Stretch<'_>, order: &[Fate]) -> Option<u8> {
+pub fn last_count(stretch: &Stretch<'_>, order: &[Fate]) -> Option<u8> {
     let mut left = Left::of(stretch);
     let mut last = None;
     for fate in order {
@@ -66,11 +66,7 @@ pub(crate) fn last_count(stretch: &Stretch<'_>, order: &[Fate]) -> Option<u8> {
 }
 
 /// Adds one fate several times.
-pub(crate) fn push_times(
-    fates: &mut Vec<Fate>,
-    fate: Fate,
-    count: usize,
-) -> Result<(), AllocError> {
+pub fn push_times(fates: &mut Vec<Fate>, fate: Fate, count: usize) -> Result<(), AllocError> {
     for _ in 0..count {
         fates.push(fate)?;
     }
@@ -78,12 +74,7 @@ pub(crate) fn push_times(
 }
 
 /// Whether two orders of a stretch make the same frames of it, by their octets.
-pub(crate) fn make_same(
-    both: &Both<'_>,
-    stretch: &Stretch<'_>,
-    one: &[Fate],
-    other: &[Fate],
-) -> bool {
+pub fn make_same(both: &Both<'_>, stretch: &Stretch<'_>, one: &[Fate], other: &[Fate]) -> bool {
     if one.len() != other.len() {
         return false;
     }
@@ -100,7 +91,7 @@ pub(crate) fn make_same(
 
 /// Whether the positions rise in an order of a stretch, and are equal where a frame is taken from
 /// both recordings.
-pub(crate) fn agrees_with_positions(stretch: &Stretch<'_>, order: &[Fate]) -> bool {
+pub fn agrees_with_positions(stretch: &Stretch<'_>, order: &[Fate]) -> bool {
     let mut left = Left::of(stretch);
     let mut last = (0u32, 0u32);
     for fate in order {
@@ -117,7 +108,7 @@ pub(crate) fn agrees_with_positions(stretch: &Stretch<'_>, order: &[Fate]) -> bo
 }
 
 /// Whether an idle frame of a stretch is taken from both recordings.
-pub(crate) fn have_common_idle(both: &Both<'_>, stretch: &Stretch<'_>, fates: &[Fate]) -> bool {
+pub fn have_common_idle(both: &Both<'_>, stretch: &Stretch<'_>, fates: &[Fate]) -> bool {
     let mut left = Left::of(stretch);
     for fate in fates {
         if let Taken {

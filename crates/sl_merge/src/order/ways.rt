@@ -21,14 +21,14 @@ struct Gap {
 /// One way to number the frames of both recordings: an outage in one of them, or in both. It is the
 /// likelier, the greater its weight is.
 #[derive(Clone, Copy)]
-pub(crate) struct Way {
+pub struct Way {
     pub first: Outage,
     pub second: Outage,
     pub weight: u64,
 }
 
 /// The ways to number frames of a channel between two places of one order, the likeliest first.
-pub(crate) fn ways(
+pub fn ways(
     alloc: Global,
     firsts: &[Mark],
     seconds: &[Mark],

@@ -17,7 +17,7 @@ struct Loom<'a> {
 /// One order of all frames that keeps each recording's and each channel's; where these leave it
 /// open, by the positions, else the first recording's frame first. `None` where
 /// there is no such order.
-pub(crate) fn weave(
+pub fn weave(
     alloc: Global,
     frames: &Frames,
     lanes: &[Vec<Fate>],

@@ -20,7 +20,7 @@ ghost use Rattle.sl_tcflow.specs.StepReport.{counts_of};
 
 use crate::farms::Farms;
 use crate::report::{EMPTY_STEP, TcStep};
-use crate::segment::{accepted, carried_segment, map_in};
+use crate::segment::{accepted_segment, carried_segment, map_in};
 use crate::series_store::SeriesStore;
 use sl_cop::{Starts, Verdict, Window};
 use sl_fields::Clcw;
@@ -276,7 +276,7 @@ fn take_unit<S: PacketSink>(
 {
     let segment = carried_segment(frame, plain);
     let map = map_in(&segment);
-    match accepted(verdict, segment) {
+    match accepted_segment(verdict, segment) {
         // The verdict is `Accept` here, as each report on a segment has it.
         Some(segment) => match series.take_segment(&segment, sink) {
             Ok(step) => Ok(TcStep { map, ..step }),

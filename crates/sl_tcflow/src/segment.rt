@@ -65,7 +65,7 @@ pub fn carried_segment<'a>(frame: &TcFrame<'a>, plain: bool) -> Option<Segment<'
 
 /// The segment of a frame's unit, where this verdict accepts it.
 #[inline(always)]
-pub fn accepted<'a>(verdict: Verdict, segment: Option<Segment<'a>>) -> Option<Segment<'a>>
+pub fn accepted_segment<'a>(verdict: Verdict, segment: Option<Segment<'a>>) -> Option<Segment<'a>>
     ensures { result ≡ accepted_segment verdict segment.entry }
 {
     match verdict {

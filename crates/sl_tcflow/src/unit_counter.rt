@@ -15,7 +15,7 @@ ghost use Rattle.sl_tcflow.specs.UnitCounter.{AreCounted, ForCounted, ForCounts,
 use crate::count_store::CountStore;
 use crate::farms::Farms;
 use crate::report::{EMPTY_STEP, TcStep};
-use crate::segment::{accepted, carried_segment, map_in};
+use crate::segment::{accepted_segment, carried_segment, map_in};
 use sl_cop::{Starts, Verdict, Window};
 use sl_tcframe::{TcFrame, VcSet};
 use std::marker::Model;
@@ -158,7 +158,7 @@ fn count_unit(series: &mut CountStore, plain: bool, verdict: Verdict, frame: &Tc
 {
     let segment = carried_segment(frame, plain);
     let map = map_in(&segment);
-    match accepted(verdict, segment) {
+    match accepted_segment(verdict, segment) {
         // The verdict is `Accept` here, as each report on a segment has it.
         Some(segment) => {
             let step = series.take_segment(&segment);

@@ -9,35 +9,35 @@ use Rattle.sl_tcflow.proofs.unit_counter.count_unit.Goals as goal
 pub returns-in-None-clause-counts : goal.returns-in-None-clause-counts
 returns-in-None-clause-counts c r views headers counted is =
     counted_same r c.args.series.now views c.args.frame.now counted
-    (none_read r views c.args.frame.now c.args.plain c.args.verdict _ headers is c.carried_segment-segment.ensures (sym c.accepted.ensures ∙ c.in-None.is))
+    (none_read r views c.args.frame.now c.args.plain c.args.verdict _ headers is c.carried_segment-segment.ensures (sym c.accepted_segment.ensures ∙ c.in-None.is))
 
 pub returns-in-None-clause-step : goal.returns-in-None-clause-step
 returns-in-None-clause-step c r views headers counted is =
     reported_none r views c.args.frame.now c.args.verdict c.map_in-map.result is
     (c.map_in-map.ensures.value ∙ map_read_is r views c.args.frame.now c.args.plain c.args.verdict _ headers c.carried_segment-segment.ensures)
-    (none_read r views c.args.frame.now c.args.plain c.args.verdict _ headers is c.carried_segment-segment.ensures (sym c.accepted.ensures ∙ c.in-None.is))
+    (none_read r views c.args.frame.now c.args.plain c.args.verdict _ headers is c.carried_segment-segment.ensures (sym c.accepted_segment.ensures ∙ c.in-None.is))
 
 pub returns-in-None-clause-packets : goal.returns-in-None-clause-packets
 returns-in-None-clause-packets c r views headers counted is =
     counts_none r views c.args.frame.now _
-    (none_read r views c.args.frame.now c.args.plain c.args.verdict _ headers is c.carried_segment-segment.ensures (sym c.accepted.ensures ∙ c.in-None.is))
+    (none_read r views c.args.frame.now c.args.plain c.args.verdict _ headers is c.carried_segment-segment.ensures (sym c.accepted_segment.ensures ∙ c.in-None.is))
     refl refl
 
 pub returns-in-Some-clause-counts : goal.returns-in-Some-clause-counts
 returns-in-Some-clause-counts c r views headers counted is =
-    let read = some_read r views c.args.frame.now c.args.plain c.args.verdict _ c.in-Some.segment headers is c.carried_segment-segment.ensures (sym c.accepted.ensures ∙ c.in-Some.is) in
+    let read = some_read r views c.args.frame.now c.args.plain c.args.verdict _ c.in-Some.segment headers is c.carried_segment-segment.ensures (sym c.accepted_segment.ensures ∙ c.in-Some.is) in
     counts_read r c.args.series.now views c.args.frame.now c.in-Some.segment read counted (omega (arith, c.requires)) c.take_segment-step.new.self c.take_segment-step.ensures.counts
 
 pub returns-in-Some-clause-step : goal.returns-in-Some-clause-step
 returns-in-Some-clause-step c r views headers counted is =
-    let read = some_read r views c.args.frame.now c.args.plain c.args.verdict _ c.in-Some.segment headers is c.carried_segment-segment.ensures (sym c.accepted.ensures ∙ c.in-Some.is) in
+    let read = some_read r views c.args.frame.now c.args.plain c.args.verdict _ c.in-Some.segment headers is c.carried_segment-segment.ensures (sym c.accepted_segment.ensures ∙ c.in-Some.is) in
     subst (λ (step : StepReport). IsReportOnFrame r views c.args.frame.now (record step { map = c.map_in-map.result })) (sym c.step.view_is)
     (report_read r c.args.series.now views c.args.frame.now c.in-Some.segment read counted (omega (arith, c.requires)) c.take_segment-step.result c.map_in-map.result
     (c.map_in-map.ensures.value ∙ map_read_is r views c.args.frame.now c.args.plain c.args.verdict _ headers c.carried_segment-segment.ensures) c.take_segment-step.ensures.step)
 
 pub returns-in-Some-clause-packets : goal.returns-in-Some-clause-packets
 returns-in-Some-clause-packets c r views headers counted is =
-    let read = some_read r views c.args.frame.now c.args.plain c.args.verdict _ c.in-Some.segment headers is c.carried_segment-segment.ensures (sym c.accepted.ensures ∙ c.in-Some.is) in
+    let read = some_read r views c.args.frame.now c.args.plain c.args.verdict _ c.in-Some.segment headers is c.carried_segment-segment.ensures (sym c.accepted_segment.ensures ∙ c.in-Some.is) in
     let reported = packets_read r c.args.series.now views c.args.frame.now c.in-Some.segment read counted (omega (arith, c.requires)) c.take_segment-step.result c.take_segment-step.ensures.packets in
     record {
       packets = ap (λ (s : StepReport). s.packets) c.step.view_is ∙ reported.packets;

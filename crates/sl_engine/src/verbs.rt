@@ -114,8 +114,8 @@ impl<'a, 'b, 'c, W: Write, V: Verb> FrameSink for Lister<'a, 'b, 'c, W, V> {
 }
 
 // Reads a recording to its end, and writes the listing of it into an output in which no line waits.
-// A function of its own, so that its proof speaks of an output that was lent, as each step of a
-// verb does: `list` makes that output.
+// Apart from `list`, which owns the output, because the proofs of a verb's steps are about a
+// borrowed one.
 fn list_into<V: Verb, R: Read, W: Write>(
     managed: &Managed,
     verb: &mut V,

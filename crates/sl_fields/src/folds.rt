@@ -3,10 +3,9 @@
 //!
 //! The generator is x^16 + x^12 + x^5 + 1, and all sums are without carries, so a square is the sum
 //! of the squares. x^16 has the remainder of x^12 + x^5 + 1, and squared three times x^128 that of
-//! x^96 + x^40 + 1. So an octet before sixteen octets counts as one before twelve, five and none:
-//! where it is added 4, 11 and 16 places later, a zero may stand in its own place. So too for 8, 22
-//! and 32, and for 16, 44 and 64. The law `runs_may_move` says this; the folds use `part-recurs`
-//! (proofs/FecfRecurrence.antt).
+//! x^96 + x^40 + 1. So an octet may be replaced by zero once it has been added to the octets 4, 11
+//! and 16 places after it. The same holds for 8, 22 and 32 places, and for 16, 44 and 64. The law
+//! `runs_may_move` says this; the folds use `part-recurs` (proofs/FecfRecurrence.antt).
 ghost use Rattle.std.specs.Prelude.{◌≡◌, ◌≤◌, ◌++◌, length, take, drop};
 ghost use Rattle.sl_fields.specs.Fecf.{fecf_of};
 ghost use Rattle.sl_fields.specs.FecfFolds.{part_of, first_two_of};

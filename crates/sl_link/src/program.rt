@@ -169,8 +169,8 @@ fn report_refusal<W: Write, E: Write>(
         × (kind_of refusal.now ≢ ErrorKind.DisplayHelp)
         × (kind_of refusal.now ≢ ErrorKind.DisplayVersion)
         × (kind_of refusal.now ≢ ErrorKind.OutOfMemory) }
-    // Want of memory or a failed write is a fault. Refused words and a failed error output are no
-    // faults.
+    // Where memory is refused or a write fails, there is a fault. Refused words and a failed error
+    // output are no faults.
     ensures stopped { result ≡ 3
         → ((writer.new ≡ writer.old) × MayLackMemory (kind_of refusal.now))
         ⊎ WithText (kind_of refusal.now)

@@ -38,8 +38,8 @@ pub struct FateCounts {
     pub second_left_out: LeftOut,
 }
 
-/// Counts the frames of two recordings by their fates. The only refusal is want of memory, as which
-/// also 2^64 frames or more count.
+/// Counts the frames of two recordings by their fates. It fails only where memory is refused, or
+/// where there are 2^64 frames or more.
 pub fn count_fates(
     alloc: Global,
     shape: &TmShape,

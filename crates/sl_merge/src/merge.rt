@@ -14,7 +14,7 @@ use std::alloc::{AllocError, Global};
 use std::hash::BuildHasher;
 
 /// The merged recording that fates tell: the frames that stand in it, end to end. The fates take
-/// frames up to the first one that finds none. The only refusal is want of memory.
+/// frames up to the first one that finds none. It fails only where memory is refused.
 pub fn merged_recording(
     alloc: Global,
     shape: &TmShape,
@@ -62,7 +62,7 @@ pub fn merged_recording(
 /// payload comes once in each; where all payloads come twice, as those of idle frames, it may be
 /// one. To leave out all of a recording is no merge, but where all its frames are skipped.
 ///
-/// The only refusal is want of memory.
+/// The test fails only where memory is refused.
 pub fn is_merge_tm<S: BuildHasher + Copy>(
     alloc: Global,
     hasher: S,

@@ -16,8 +16,7 @@ pub const LONGEST_PACKET: usize = 65542;
 /// longest packet.
 ///
 /// Memory is refused only where the capacity has no room for the part, and then nothing is added.
-/// How the capacity grows is known from reading the code, not from a clause of this call: it is
-/// doubled, or becomes what is needed where this is more, and 65,542 at most.
+/// The capacity doubles, or grows to what is needed, up to 65,542. (No clause says so.)
 #[inline(always)]
 pub fn add_part(octets: &mut Vec<u8>, part: &[u8]) -> Result<(), AllocError>
     requires { vec_len octets.old + length part.now ≤ 65542 }

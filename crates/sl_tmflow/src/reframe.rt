@@ -17,8 +17,8 @@ use std::alloc::{AllocError, Global};
 /// again.
 ///
 /// `spacecraft`, the spacecraft identifier of all frames, is 0 to 1023. The channels of `delivered`
-/// from 8 on have no packets, which [`Delivered::fits_tm`] tests. The only refusal is want of
-/// memory, and only where there are packets.
+/// from 8 on have no packets, which [`Delivered::fits_tm`] tests. The call is refused only memory,
+/// and only where there are packets.
 pub fn reframe_tm(
     alloc: Global,
     shape: &TmShape,

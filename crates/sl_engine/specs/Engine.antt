@@ -55,11 +55,12 @@ abbrev pub engine_frames : RecordingKind → Parameters → List ℕ → List (L
 engine_frames Tm = tm_frames
 engine_frames Tc = tc_frames
 
--- Memory may be refused to the engine at the last of these frames: to `show` and `check` never, to `packets` for what
--- is incomplete, to `normalise` for stored packets too.
+-- Memory may be refused to the engine at the last of these frames: to `show`, and to `check` of TM frames, never; to
+-- `check` of TC frames and to `packets` for what is incomplete, to `normalise` for stored packets too.
 abbrev pub MayRefuseEngineMemory : VerbName → RecordingKind → Parameters → List (List ℕ) → Type 0
 MayRefuseEngineMemory Show kind managed frames = ⊥
-MayRefuseEngineMemory Check kind managed frames = ⊥
+MayRefuseEngineMemory Check Tm managed frames = ⊥
+MayRefuseEngineMemory Check Tc managed frames = IsIncompleteAtLastTc managed frames
 MayRefuseEngineMemory Packets Tm managed frames = IsIncompleteAtLastTm managed frames
 MayRefuseEngineMemory Packets Tc managed frames = IsIncompleteAtLastTc managed frames
 MayRefuseEngineMemory Normalise Tm managed frames = MayRefuseStoreMemoryTm managed frames
@@ -72,8 +73,8 @@ module _ {R W : Type 0} (remaining : R → Option (List ℕ)) (contents : W → 
       TranslatesWithTotals remaining contents reader reader' writer writer'
       (engine_text engine.verb engine.kind managed) (engine_counts engine.verb engine.kind managed) managed.max_octets
 
-  -- A fault stopped the engine. A listing of frames, or of anomalies, needs no memory. A normal form is written once
-  -- all is read: at `Write` all was read, and at any other fault nothing is written. The program's `run` has this record
+  -- A fault stopped the engine. A listing of frames, or of the anomalies of TM frames, needs no memory. A normal form is
+  -- written once all is read: at `Write` all was read, and at any other fault nothing is written. The program's `run` has this record
   -- in its contract too. It flushes the writer after the engine, and a flush that fails counts as `Write`.
   pub record IsStoppedBy (reader reader' : Counted R) (writer writer' : Counted W) (engine : Engine)
       (managed : Parameters) (fault : LinkFault) : Type 0 where
@@ -81,6 +82,6 @@ module _ {R W : Type 0} (remaining : R → Option (List ℕ)) (contents : W → 
         (engine_text engine.verb engine.kind managed) managed.max_octets chunk_size fault
     -- for `run`, which has no clause `memory` as `run_engine` has
     pub not_memory : engine.verb ≡ Show → fault ≢ Memory
-    pub check_not_memory : engine.verb ≡ Check → fault ≢ Memory
+    pub check_not_memory : engine.verb ≡ Check → engine.kind ≡ Tm → fault ≢ Memory
     pub all_read : engine.verb ≡ Normalise → fault ≡ Write → IsRead remaining reader'
     pub nothing : engine.verb ≡ Normalise → fault ≢ Write → writer' ≡ writer

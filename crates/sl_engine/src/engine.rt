@@ -50,7 +50,7 @@ impl Engine {
 }
 
 /// Calls an engine: for `Show` and `Tm` [`show_tm`], and so on. The faults are the engine's;
-/// `Memory` comes where that engine may be refused memory, for `Show` and `Check` never.
+/// `Memory` comes where that engine may be refused memory: never for `Show`, nor for `Check` of TM.
 pub fn run_engine<R: Read, W: Write>(
     alloc: Global,
     engine: Engine,
@@ -64,8 +64,8 @@ pub fn run_engine<R: Read, W: Write>(
     // A fault has its cause, and a prefix of the text of what was read is written.
     ensures stopped { IfErr result (IsStoppedBy R.remaining W.contents reader.old reader.new
         writer.old writer.new engine managed.now) }
-    // Memory is refused only where that engine may be refused it, for a listing of frames or of
-    // anomalies nowhere.
+    // Memory is refused only where that engine may be refused it, for a listing of frames, or of
+    // the anomalies of TM frames, nowhere.
     ensures memory { IfErr result (λ fault. fault ≡ LinkFault.Memory
         → MayRefuseMemoryAtSome R.remaining reader.old reader.new
         (engine_frames engine.kind managed.now)

@@ -5,6 +5,7 @@ ghost use Rattle.sl_packet.specs.Packets.{without_idle};
 ghost use Rattle.sl_packet.specs.Stopping.{IsStopped};
 ghost use Rattle.sl_engine.specs.Kind.Delivery.{Brings, Delivers};
 
+mod discard;
 pub mod tc;
 pub mod tm;
 
@@ -93,25 +94,36 @@ pub trait Deliverer: Followed {
 }
 
 /// Counts the packets of frames of one kind, as a deliverer has them, and reports the same of the
-/// frames. Of packets it keeps no octets but those of a header, so it takes no memory and has no
-/// fault.
+/// frames. Of TM packets it keeps no octets but those of a header, so it takes no memory.
 pub trait Counter: Followed {
-    /// No frame has been processed yet.
-    fn begin(managed: &Managed) -> Self
+    ghost use Rattle.sl_engine.specs.Link.Managed.{Parameters};
+
+    /// Whether memory may be refused at the last of these frames.
+    ghost may_refuse_memory: { Parameters → List (List ℕ) → Type 0 };
+
+    /// No frame has been processed yet. Memory is taken only as frames come, if at all.
+    fn begin(alloc: Global, managed: &Managed) -> Self
         ensures { Self.has_processed result managed.now [] };
 
     /// Takes the next frame. Answers the report on it, which is whether it is skipped and its
-    /// numbers of packets, and what is found of it.
-    fn count(&mut self, managed: &Managed, frame: &[u8]) -> (FrameReport, Self::Found)
+    /// numbers of packets, and what is found of it. The only fault is `Memory`.
+    fn count(
+        &mut self,
+        managed: &Managed,
+        frame: &[u8],
+    ) -> Result<(FrameReport, Self::Found), FlowFault>
         requires { (before : List (List ℕ)) × Self.has_processed self.old managed.now before
             × Self.Framer.is_frame managed.now frame.now }
-        ensures processed { (before : List (List ℕ))
+        ensures processed { OnOk result ((before : List (List ℕ))
             → Self.has_processed self.old managed.now before
-            → Self.has_processed self.new managed.now (before ++ frame.now ∷ []) }
-        ensures brings { (before : List (List ℕ))
+            → Self.has_processed self.new managed.now (before ++ frame.now ∷ [])) }
+        ensures brings { IfOk result (λ answer. (before : List (List ℕ))
             → Self.has_processed self.old managed.now before
-            → Brings (Self.kind managed.now) before frame.now result.0 }
-        ensures found { (before : List (List ℕ))
+            → Brings (Self.kind managed.now) before frame.now answer.0) }
+        ensures found { IfOk result (λ answer. (before : List (List ℕ))
             → Self.has_processed self.old managed.now before
-            → result.1 ≡ Self.found managed.now before frame.now };
+            → answer.1 ≡ Self.found managed.now before frame.now) }
+        ensures memory { IfErr result (λ fault. (before : List (List ℕ))
+            → Self.has_processed self.old managed.now before → (fault ≡ FlowFault.Memory)
+            × may_refuse_memory managed.now (before ++ frame.now ∷ [])) };
 }

@@ -1,5 +1,5 @@
 //! The listings of recordings. A call has two buffers of 65,536 octets on its stack: for what is
-//! read, and for lines. `check_tc` has 98,304 octets of counts there too.
+//! read, and for lines.
 ghost use Rattle.std.specs.Prelude.{◌≡◌, ◌≢◌, IfOk, IfErr, OnOk, Err};
 ghost use Rattle.sl_tcframe.specs.TcDelimited.{tc_frames_of};
 ghost use Rattle.sl_tmframe.specs.TmDelimited.{tm_frames_of};
@@ -24,7 +24,7 @@ use crate::verbs::packets::ListPackets;
 use crate::verbs::show::Show;
 use crate::verbs::show::shown::TmFrames;
 use sl_io::{Counted, LinkFault};
-use sl_tcflow::{Farms, Receiver, UnitCounter};
+use sl_tcflow::{Farms, Receiver};
 use sl_tmflow::{Extractor, PacketCounter};
 use std::alloc::Global;
 use std::io::{Read, Write};
@@ -126,7 +126,7 @@ pub fn check_tm<R: Read, W: Write>(
     ensures no_memory { result ≢ Err LinkFault.Memory }
 {
     let mut buffer = [0; CHUNK_SIZE];
-    let mut verb = Check::<PacketCounter>::begin(managed);
+    let mut verb = Check::<PacketCounter>::begin(alloc, managed);
     list(managed, &mut verb, reader, writer, &mut buffer)
 }
 
@@ -134,12 +134,14 @@ pub fn check_tm<R: Read, W: Write>(
 /// and then one of its totals (docs/listings.md).
 ///
 /// It keeps what was read last and the lines that aren't written yet, at most 65,536 octets each,
-/// one frame at most that began in an earlier read, the FARM-1 of 64 virtual channels, and for each
-/// of the 4,096 MAPs 24 octets, which count its incomplete series. It takes no memory, and `alloc`
-/// isn't read. No clause says what is kept: that is seen by reading.
+/// one frame at most that began in an earlier read, the FARM-1 of 64 virtual channels, and the
+/// series of segments that is incomplete on each MAP. No clause says what is kept: that is seen by
+/// reading.
 ///
-/// The fault is `Read` where the reader had one, `TooLong` where more octets came than the managed
-/// limit, and `Write` where the writer had one.
+/// The fault is `Read` or `Write` where the reader or the writer had one, `TooLong` where more
+/// octets came than the managed limit, and `Memory` where memory was refused. Memory is refused
+/// only where the unit of a frame is accepted and a series is incomplete on its MAP, before the
+/// frame or after it.
 pub fn check_tc<R: Read, W: Write>(
     alloc: Global,
     managed: &Managed,
@@ -156,14 +158,14 @@ pub fn check_tc<R: Read, W: Write>(
     // A fault has its cause (`IsCaused`), and a prefix of the listing of what was read is written.
     ensures fault { IfErr result (Stops R.remaining W.contents reader.old reader.new
         writer.old writer.new (check_tc_text managed.now) managed.now.max_octets chunk_size) }
-    // Memory is never refused, as `no_memory` says: this clause follows from that one.
+    // Memory is refused only where the unit of a frame is accepted and a series is incomplete on
+    // its MAP, before the frame or after it.
     ensures memory { IfErr result (λ fault. fault ≡ LinkFault.Memory
         → MayRefuseMemoryAtSome R.remaining reader.old reader.new
         (tc_frames_of (tc_format managed.now)) (IsIncompleteAtLastTc managed.now)) }
-    ensures no_memory { result ≢ Err LinkFault.Memory }
 {
     let mut buffer = [0; CHUNK_SIZE];
-    let mut verb = Check::<UnitCounter>::begin(managed);
+    let mut verb = Check::<Receiver>::begin(alloc, managed);
     list(managed, &mut verb, reader, writer, &mut buffer)
 }
 

@@ -111,16 +111,22 @@ impl Deliverer for Extractor {
 }
 
 impl Counter for PacketCounter {
-    fn begin(_managed: &Managed) -> PacketCounter {
+    ghost may_refuse_memory = { λ p frames. ⊥ };
+
+    fn begin(_alloc: Global, _managed: &Managed) -> PacketCounter {
         PacketCounter::new()
     }
 
-    fn count(&mut self, managed: &Managed, frame: &[u8]) -> (FrameReport, Result<TmFound, TmSkip>) {
+    fn count(
+        &mut self,
+        managed: &Managed,
+        frame: &[u8],
+    ) -> Result<(FrameReport, Result<TmFound, TmSkip>), FlowFault> {
         let view = match TmFrame::read(&managed.tm, managed.spacecraft, frame) {
             Ok(view) => view,
-            Err(reason) => return (SKIPPED, Err(reason)),
+            Err(reason) => return Ok((SKIPPED, Err(reason))),
         };
-        report_of(&view, &self.frame(&view))
+        Ok(report_of(&view, &self.frame(&view)))
     }
 }
 

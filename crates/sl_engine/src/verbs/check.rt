@@ -20,6 +20,7 @@ use crate::verbs::Verb;
 use crate::verbs::check::checked::AnomalyLines;
 use crate::verbs::check::lines::{push_totals, remainder_lines};
 use sl_io::LinkFault;
+use std::alloc::Global;
 use std::io::Write;
 
 /// Lists the anomalies of the frames, and those after them.
@@ -30,14 +31,13 @@ pub struct Check<D: AnomalyLines> {
 }
 
 impl<D: AnomalyLines> Check<D> {
-    /// No frame has been checked. Inlined, since a counter may be large: it is made where it stays.
-    #[inline(always)]
-    pub fn begin(managed: &Managed) -> Check<D>
+    /// No frame has been checked.
+    pub fn begin(alloc: Global, managed: &Managed) -> Check<D>
         ensures { HasChecked (D.kind managed.now) (anomalies_by D.lines_of (D.found managed.now))
             (D.has_processed result.counter managed.now) [] result.so_far }
     {
         Check {
-            counter: D::begin(managed),
+            counter: D::begin(alloc, managed),
             so_far: Totals::none(),
         }
     }
@@ -56,11 +56,11 @@ impl<D: AnomalyLines> Verb for Check<D> {
         (anomalies_by D.lines_of (D.found p)) (D.has_processed verb.counter p) frames
         verb.so_far };
 
-    ghost may_refuse_memory = { λ p frames. ⊥ };
+    ghost may_refuse_memory = { D.may_refuse_memory };
 
     fn frame<W: Write>(&mut self, managed: &Managed, frame: &[u8], out: &mut Output<W>) -> Written {
         out.make_room()?;
-        let (report, found) = self.counter.count(managed, frame);
+        let (report, found) = self.counter.count(managed, frame)?;
         let anomalies = D::anomaly_lines(&mut out.lines, self.so_far.octets(), found);
         self.so_far.add(frame.len() as u64, report);
         self.so_far.add_anomalies(anomalies);

@@ -29,3 +29,6 @@ returns-in-Normalise-Tm-clause-memory g c = rw (c.in-Normalise-Tm.is-0, c.in-Nor
 
 pub returns-in-Normalise-Tc-clause-memory : goal.returns-in-Normalise-Tc-clause-memory
 returns-in-Normalise-Tc-clause-memory g c = rw (c.in-Normalise-Tc.is-0, c.in-Normalise-Tc.is-1) c.normalise_tc.ensures.memory
+
+pub returns-in-Check-Tc-clause-memory : goal.returns-in-Check-Tc-clause-memory
+returns-in-Check-Tc-clause-memory g c = rw (c.in-Check-Tc.is-0, c.in-Check-Tc.is-1) c.check_tc.ensures.memory

@@ -25,7 +25,7 @@ module _ {R W : Type 0} {remaining : R → Option (List ℕ)} {contents : W → 
       record {
         cause = flushing.stopped_flushing done.translated kept is_write failed;
         not_memory = λ lists is_memory. let bad : Memory ≡ Write = sym is_memory ∙ is_write in cc;
-        check_not_memory = λ checks is_memory. let bad : Memory ≡ Write = sym is_memory ∙ is_write in cc;
+        check_not_memory = λ checks of_tm is_memory. let bad : Memory ≡ Write = sym is_memory ∙ is_write in cc;
         all_read = λ form same. done.translated.to_end;
         nothing = λ form other. absurd (other is_write);
       }

@@ -13,6 +13,11 @@ pub record AreLeading (number : ℕ) (places : List ℕ) (many : ℕ) : Type 0 w
   pub digits : take many places ≡ decimal number
   pub few : many ≤ 16
 
+-- the number is that of a long number's leading digits, and this is the least such long number
+pub record AreOfLong (number least : ℕ) : Type 0 where
+  pub some : 1 ≤ number
+  pub least_is : least ≡ number * 10000
+
 -- two digits of a number below 100, and four of one below 10,000, with the zeros before them
 abbrev pub two_digits : ℕ → List ℕ
 two_digits n = (48 + n / 10) ∷ (48 + n % 10) ∷ []

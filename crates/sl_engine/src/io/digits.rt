@@ -1,6 +1,6 @@
 //! Numbers in decimal, as the crate `itoa` writes them.
-ghost use Rattle.std.specs.Prelude.{◌≡◌, ◌*◌, ◌≤◌, ◌<◌, ◌^◌, ℕ, [], decimal, slice_index_or, take, IfSome};
-ghost use Rattle.sl_engine.specs.Io.Digits.{AreDigits, AreLeading, four_digits, two_digits};
+ghost use Rattle.std.specs.Prelude.{◌≡◌, ◌*◌, ◌≤◌, ◌<◌, ◌^◌, ◌++◌, ℕ, [], decimal, slice_index_or, take, IfSome};
+ghost use Rattle.sl_engine.specs.Io.Digits.{AreDigits, AreLeading, AreOfLong, four_digits, two_digits};
 
 use itoa::{Buffer, write_digits};
 
@@ -14,22 +14,25 @@ pub struct Decimals {
     ghost in_decimal: { (n : ℕ) → n < 256 → AreDigits n (slice_index_or octets n []) },
 }
 
-// The digits of a long number but for its last four. `number` is the number that they make,
-// `places` begins with them, and `many` is how many they are.
+// The digits of a long number but for its last four. `number` is the number that they make, `least`
+// the least long number that begins with them, `places` begins with them, and `many` is how many they
+// are.
 #[derive(Clone, Copy)]
 struct Leading {
     number: u64,
+    least: u64,
     places: [u8; 16],
     many: usize,
     ghost are_leading: { AreLeading number places many },
+    ghost of_long: { AreOfLong number least },
 }
 
 impl Decimals {
-    /// The digits of all octets, and the leading digits 0.
+    /// The digits of all octets, and the leading digits 1.
     pub fn new() -> Decimals {
         Decimals {
             octets: octets_in_decimal(),
-            leading: leading_of(0),
+            leading: leading_of(1),
         }
     }
 
@@ -83,17 +86,37 @@ impl Decimals {
     /// The same, where the digits of `number` aren't kept: they are worked out, and kept for the
     /// next call.
     pub fn new_leading(&mut self, number: u64) -> ([u8; 16], usize)
-        requires { number * 10000 < 2 ^ 64 }
+        requires some { 1 ≤ number }
+        requires fits { number * 10000 < 2 ^ 64 }
         ensures digits { take result.1 result.0 ≡ decimal number }
         ensures few { result.1 ≤ 16 }
     {
         self.leading = leading_of(number);
         (self.leading.places, self.leading.many)
     }
+
+    /// A long number in decimal: its leading digits, as `leading` gives them, and its last four.
+    /// `None` where the leading digits of another number are kept. Nothing is divided to find out.
+    #[inline(always)]
+    pub fn long(&self, number: u64) -> Option<([u8; 16], usize, [u8; 4])>
+        ensures digits { IfSome result (λ d. take d.1 d.0 ++ d.2 ≡ decimal number) }
+        ensures few { IfSome result (λ d. d.1 ≤ 16) }
+    {
+        if number < self.leading.least {
+            return None;
+        }
+        let last = number - self.leading.least;
+        if last >= 10_000 {
+            return None;
+        }
+        let last = self.last_four(last as u16);
+        Some((self.leading.places, self.leading.many, last))
+    }
 }
 
 fn leading_of(number: u64) -> Leading
-    requires { number * 10000 < 2 ^ 64 }
+    requires some { 1 ≤ number }
+    requires fits { number * 10000 < 2 ^ 64 }
     ensures { result.number ≡ number }
 {
     // The digits, 16 at most, end in the middle of the 32 places. So 16 places follow wherever they
@@ -104,6 +127,7 @@ fn leading_of(number: u64) -> Leading
     places.copy_from_slice(&digits[start..start + 16]);
     Leading {
         number,
+        least: number * 10_000,
         places,
         many: 16 - start,
     }

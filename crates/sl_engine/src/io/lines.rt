@@ -124,6 +124,43 @@ impl Lines {
         }
     }
 
+    /// Adds a number in decimal that mostly is a long one with the leading digits of the long number
+    /// before it, as the offset of a frame is. This call is then faster than `push_number`.
+    #[inline(always)]
+    pub fn push_offset(&mut self, offset: u64)
+        requires { HasRoomFor number_width self.old }
+        ensures text { self.new ≡ self.old ++ decimal offset }
+        ensures short { length self.new ≤ length self.old + number_width }
+    {
+        match self.decimals.long(offset) {
+            Some(long) => self.push_long(long),
+            None => self.push_other(offset),
+        }
+    }
+
+    // Adds a long number, as `Decimals` gives it.
+    #[inline(always)]
+    fn push_long(&mut self, long: ([u8; 16], usize, [u8; 4]))
+        requires room { HasRoomFor number_width self.old }
+        requires few { long.1 ≤ 16 }
+        ensures text { self.new ≡ self.old ++ (take long.1 long.0 ++ long.2) }
+        ensures short { length self.new ≤ length self.old + number_width }
+    {
+        let (places, many, last) = long;
+        self.push_first(&places, many);
+        self.push(&last);
+    }
+
+    // Adds a number, whatever digits are kept. Cold, since those of an offset mostly are.
+    #[cold]
+    fn push_other(&mut self, number: u64)
+        requires { HasRoomFor number_width self.old }
+        ensures text { self.new ≡ self.old ++ decimal number }
+        ensures short { length self.new ≤ length self.old + number_width }
+    {
+        self.push_number(number);
+    }
+
     // Adds a number of three digits or more, as each that isn't an octet is.
     fn push_large_number(&mut self, number: u64)
         requires room { HasRoomFor number_width self.old }
@@ -152,6 +189,7 @@ impl Lines {
     #[cold]
     fn push_anew(&mut self, leading: u64, last: &[u8; 4])
         requires room { HasRoomFor number_width self.old }
+        requires some { 1 ≤ leading }
         requires leading { leading * 10000 < 2 ^ 64 }
         ensures text { self.new ≡ self.old ++ (decimal leading ++ last.now) }
         ensures short { length self.new ≤ length self.old + number_width }

@@ -1,10 +1,10 @@
 //! The normal form of delivered packets, piece by piece.
 ghost use Rattle.std.specs.Prelude.{◌≡◌, ◌≢◌, ℕ, ◌+◌, ◌^◌, ◌<◌, ◌≤◌, ◌++◌, true, List, [], length};
-ghost use Rattle.std.specs.Prelude.{vec_len, IsTrue, IsFalse, IfSome, IfNone, IfOk, IsOk, OnOk};
+ghost use Rattle.std.specs.Prelude.{map, vec_len, IsTrue, IsFalse, IfSome, IfNone, IfOk, IsOk, OnOk};
 ghost use Rattle.std.specs.Prelude.{OnErr};
-ghost use Rattle.std.specs.List.{slice_index_or};
-ghost use Rattle.std.specs.Vec.{vec_capacity};
-ghost use Rattle.sl_packet.specs.Delivered.{IsDeliverable, channel_count, list_at};
+ghost use Rattle.std.specs.List.{AllByRecursion, slice_index_or};
+ghost use Rattle.std.specs.Vec.{vec_capacity, vec_items};
+ghost use Rattle.sl_packet.specs.Delivered.{IsDeliverable, channel_count};
 ghost use Rattle.sl_tcframe.specs.AdFrame.{plain_room_of};
 ghost use Rattle.sl_tcframe.specs.TcFrame.{TcFormat};
 ghost use Rattle.sl_tcflow.specs.Fits.{FitsTc};
@@ -43,6 +43,8 @@ pub struct TcForm<'d> {
     plain: VcSet,
     delivered: &'d Delivered,
     place: Place,
+    // The packets of the place's channel.
+    packets: &'d [Vec<u8>],
 }
 
 // The place of the next packet: its channel, or 4096 where no packet is left; how many packets of
@@ -116,6 +118,7 @@ impl<'d> TcForm<'d> {
             plain,
             delivered,
             place,
+            packets: delivered.list(place.channel),
         }
     }
 
@@ -145,7 +148,7 @@ impl<'d> TcForm<'d> {
         ensures succeeds { vec_len form.old + piece_room ≤ vec_capacity form.old → IsOk result }
     {
         let place = self.place;
-        let packet = match placed_packet(self.delivered, place) {
+        let packet = match placed_packet(self.packets, place.framed) {
             Some(packet) => packet,
             None => return Ok(false),
         };
@@ -162,28 +165,31 @@ impl<'d> TcForm<'d> {
             framed: place.framed + 1,
             ns,
         };
-        self.place = next_place(self.delivered, &self.starts, from);
+        if from.framed < self.packets.len() {
+            self.place = from;
+            return Ok(true);
+        }
+        let place = next_place(self.delivered, &self.starts, from);
+        self.place = place;
+        self.packets = self.delivered.list(place.channel);
         Ok(true)
     }
 }
 
-// The packet at a place. `None` where no packet is there.
-fn placed_packet(delivered: &Delivered, place: Place) -> Option<&[u8]>
-    // The packet is the one with the index `framed` in the list of its channel.
+// The packet at a place in a list. `None` where no packet is there.
+fn placed_packet(packets: &[Vec<u8>], framed: usize) -> Option<&[u8]>
+    // The packet is the one with the index `framed`.
     ensures some { IfSome result (λ packet.
-        packet.now ≡ slice_index_or (list_at delivered.now place.channel) place.framed []) }
-    ensures inside { IfSome result (λ packet.
-        place.framed < length (list_at delivered.now place.channel)) }
-    ensures none { IfNone result (length (list_at delivered.now place.channel) ≤ place.framed) }
+        packet.now ≡ slice_index_or (map vec_items packets.now) framed []) }
+    ensures inside { IfSome result (λ packet. framed < length packets.now) }
+    ensures none { IfNone result (length packets.now ≤ framed) }
 
-    // The packet is one that may be delivered, its place is in range, and each channel has a list.
-    ensures counted { IfSome result (λ packet. place.framed + 1 < 2 ^ 64) }
-    ensures channel { IfSome result (λ packet. place.channel < channel_count) }
-    ensures deliverable { IfSome result (λ packet. IsDeliverable packet.now) }
-    ensures channels { length delivered.now.lists ≡ channel_count }
+    // Where the packets are ones that may be delivered, it is one. The place after it is in range.
+    ensures deliverable { AllByRecursion IsDeliverable (map vec_items packets.now)
+        → IfSome result (λ packet. IsDeliverable packet.now) }
+    ensures counted { IfSome result (λ packet. framed + 1 < 2 ^ 64) }
 {
-    let packets = delivered.list(place.channel);
-    let packet = packets.get(place.framed)?;
+    let packet = packets.get(framed)?;
     Some(packet.as_slice())
 }
 

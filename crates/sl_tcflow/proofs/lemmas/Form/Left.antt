@@ -1,19 +1,24 @@
 -- The octets of the normal form that are still to come, packet by packet and channel by channel.
-use Rattle.std.proofs.Common.{◌≡◌, ℕ, zero, suc, ◌+◌, ◌-◌, ◌*◌, ◌/◌, ◌%◌, ◌<◌, ◌≤◌, ◌==◌, Bool, true, if◌then◌else◌, List, [], ◌∷◌, ◌++◌, length, take, drop, flat_map, inl, inr, refl, sym, ◌∙◌, ap, ap₂, arith, append_assoc, append-nil, length-append, ne_eqb}
+use Rattle.std.proofs.Common.{◌≡◌, ℕ, zero, suc, ◌+◌, ◌-◌, ◌*◌, ◌/◌, ◌%◌, ◌<◌, ◌≤◌, ◌==◌, Bool, true, if◌then◌else◌, List, [], ◌∷◌, ◌++◌, length, map, take, drop, flat_map, inl, inr, refl, sym, subst, ◌∙◌, ap, ap₂, arith, append_assoc, append-nil, length-append, ne_eqb}
 use Rattle.std.proofs.lemmas.Grind.{common_steps}
-use Rattle.std.specs.List.{concat, slice_index_or}
+use Rattle.std.specs.List.{AllByRecursion, concat, slice_index_or}
+use Rattle.std.specs.Vec.{vec_items}
 use Rattle.std.proofs.lemmas.Bool.Decides.{eqb_tells, leb_tells}
-use Rattle.std.proofs.lemmas.List.{drop_all, drop_more, drop-drop, get_or-drop, get_or_past}
+use Rattle.std.proofs.lemmas.List.{drop_all, drop_more, drop-drop, get_or-drop, get_or_past, length-map}
+use Rattle.std.proofs.lemmas.List.Elements.{All-from_recursion}
 use Rattle.std.proofs.lemmas.List.Folds.{concat-append}
 use Rattle.std.proofs.lemmas.List.FromFn.{length-map-range_with_len}
 use Rattle.std.proofs.Math.Seq.{take-nil}
 use Rattle.sl_fields.proofs.FecfLemmas.{length-with_fecf}
 use Rattle.sl_fields.proofs.Octets.{length-octets_of}
 use Rattle.sl_packet.specs.Delivered.{PacketLists, channel_count, list_at}
-use Rattle.sl_tcframe.specs.AdFrame.{segment_room_of, ad_frame}
+use Rattle.sl_tcframe.specs.AdFrame.{segment_room_of, ad_frame, plain_room_of}
 use Rattle.sl_tcframe.specs.TcFrame.{TcFormat}
 use Rattle.sl_tcframe.specs.VcSet.{has_vc}
+use Rattle.sl_tcflow.specs.Fits.{FitsOn}
 use Rattle.sl_tcflow.specs.Form.{IsPlace, vcs_left, form_left, maps_left, ns_after, piece_of, AddsPieceTc}
+use Rattle.sl_tcflow.specs.FormModel.{IsTcForm, octets_to_come}
+use Rattle.sl_tcflow.specs.declared.form.TcForm.TheInside.{Inside}
 use Rattle.sl_tcflow.specs.TcNormalForm.{units_of_packet, units_of_maps, frames_of_units, tc_normal_form_of}
 use Rattle.sl_tcflow.proofs.lemmas.Series.Part.{some_parts}
 use Rattle.sl_tcflow.proofs.lemmas.Form.Pushed.{frames_from_same, frames_from-append}
@@ -231,6 +236,45 @@ module _ (format : TcFormat) (spacecraft : ℕ) where
 -- the place after all packets
 pub no_packet : (d : PacketLists) (channel framed : ℕ) → IsPlace d channel framed → length (list_at d channel) ≤ framed → channel ≡ channel_count
 no_packet d channel framed place past = grind (arith, leb_tells)
+
+-- a packet that is left lies in the list of its channel, which is one of the channels,
+pub is_inside : (f : Inside) → IsTcForm f → f.place.framed < length f.packets.now → f.place.framed < length (list_at f.delivered.now f.place.channel)
+is_inside f is within = omega (arith, within, length-map f.packets.now vec_items, ap length is.packets)
+
+pub is_channel : (f : Inside) → IsTcForm f → f.place.framed < length f.packets.now → f.place.channel < channel_count
+is_channel f is within =
+    elim (eqb_tells f.place.channel channel_count) [
+      | inl (test, last) ↦ absurd (omega (arith, is_inside f is within, ap length (get_or_past f.delivered.now.lists f.place.channel [] (omega (arith, last, is.channels)))))
+      | inr (test, other) ↦ omega (arith, other, is.place.inside)
+    ]
+
+-- and its frames come first
+pub packet_first : (f : Inside) → IsTcForm f → f.place.framed < length f.packets.now → (b : Bool) (next : ℕ) (packet : List ℕ) → b ≡ has_vc f.plain (f.place.channel / 64)
+    → packet ≡ slice_index_or (map vec_items f.packets.now) f.place.framed [] → next ≡ ns_after f.shape b f.place.channel f.place.ns packet
+    → octets_to_come f
+    ≡ piece_of f.shape f.spacecraft b f.place.channel f.place.ns packet ++ form_left f.shape f.spacecraft f.starts f.plain f.delivered.now.lists f.place.channel (f.place.framed + 1) next
+packet_first f is within b next packet headers here =
+    piece_first f.shape f.spacecraft f.starts f.plain f.delivered.now.lists b f.place.channel f.place.framed f.place.ns next packet headers (is_inside f is within)
+    (here ∙ ap (λ l. slice_index_or l f.place.framed []) is.packets)
+
+-- where frames have no segment headers, it fits into a frame
+pub fits_in_frame : (f : Inside) → IsTcForm f → f.place.framed < length f.packets.now → (packet : List ℕ) → has_vc f.plain (f.place.channel / 64) ≡ true
+    → packet ≡ slice_index_or (map vec_items f.packets.now) f.place.framed [] → length packet ≤ plain_room_of f.shape
+fits_in_frame f is within packet plain here =
+    let lists = f.delivered.now.lists in
+    let channel = f.place.channel in
+    let inside = is_inside f is within in
+    let short = λ (p : List ℕ). length p ≤ plain_room_of f.shape in
+    let fit : FitsOn f.shape lists (channel / 64) = is.fits (channel / 64) (omega (arith, is_channel f is within)) plain in
+    elim (eqb_tells (channel % 64) 0) [
+      | inl (test, first) ↦
+          let own : 64 * (channel / 64) ≡ channel = omega (arith, first) in
+          subst short (sym (here ∙ ap (λ l. slice_index_or l f.place.framed []) is.packets))
+          (All-from_recursion short (slice_index_or lists channel []) (subst (λ n. AllByRecursion short (slice_index_or lists n [])) own fit.short) f.place.framed [] inside)
+      | inr (test, other) ↦
+          let own : 64 * (channel / 64) + channel % 64 ≡ channel = omega arith in
+          absurd (omega (arith, inside, ap length (subst (λ n. slice_index_or lists n [] ≡ []) own (fit.others (channel % 64) (omega (arith, other)) (omega arith)))))
+    ]
 
 -- the octets that are made and those to come are one form
 pub piece_moved : (left made left' made' form : List ℕ) → made ++ left ≡ form → AddsPieceTc left made left' made' → made' ++ left' ≡ form

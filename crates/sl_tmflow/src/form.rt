@@ -1,18 +1,21 @@
 //! The normal form of delivered packets, made piece by piece.
-ghost use Rattle.std.specs.Prelude.{◌≡◌, ◌≢◌, ◌+◌, ◌*◌, ◌<◌, ◌≤◌, ◌++◌, [], None, Some, length};
-ghost use Rattle.std.specs.Prelude.{take, IfOk, OnOk, OnErr, IfSome, IsTrue, IsFalse};
+ghost use Rattle.std.specs.Prelude.{◌≡◌, ◌≢◌, ◌+◌, ◌*◌, ◌<◌, ◌≤◌, ◌++◌, true, false};
+ghost use Rattle.std.specs.Prelude.{[], ◌∷◌, None, Some, length};
+ghost use Rattle.std.specs.Prelude.{map, take, IfOk, OnOk, OnErr, IfSome, IfNone, IsTrue, IsFalse};
 ghost use Rattle.std.specs.List.{concat};
-ghost use Rattle.std.specs.Vec.{vec_len, vec_capacity};
+ghost use Rattle.std.specs.Vec.{vec_items, vec_len, vec_capacity};
+ghost use Rattle.sl_fields.specs.Field.{octets_of};
 ghost use Rattle.sl_packet.specs.Packet.{longest_packet};
-ghost use Rattle.sl_tmframe.specs.PacketFrame.{field_room_of};
+ghost use Rattle.sl_tmframe.specs.PacketFrame.{field_room_of, frame_fields};
 ghost use Rattle.sl_tmframe.specs.TmFrame.{longest_field};
 ghost use Rattle.sl_tmflow.specs.Form.{AddsPiece, IsReserved, LacksRoom, piece_room};
-ghost use Rattle.sl_tmflow.specs.Form.{octets_room, heading_after, filled_up, filled_frames};
+ghost use Rattle.sl_tmflow.specs.Form.{octets_room, heading_after, filled_up, filled_frames, headed_frame};
 ghost use Rattle.sl_tmflow.specs.Form.{frames_len, fields_in, beyond_fields};
 ghost use Rattle.sl_tmflow.specs.NormalForm.{fill_of, filling, normal_form};
 ghost use Rattle.sl_tmflow.specs.Recording.{tm_lists};
 
 use crate::packet_octets::PacketOctets;
+use sl_fields::{TmHeader, fecf_field};
 use sl_packet::{Delivered, push_idle};
 use sl_tmframe::{TmShape, push_tm};
 use std::alloc::{AllocError, Global};
@@ -33,8 +36,7 @@ const OCTETS_ROOM: usize = 4096;
 ///
 /// A piece is the next octets of the form, at least one; no clause says how many. As the code is
 /// written, a piece is the frames that one packet completes, which may be the idle packet that
-/// fills a virtual channel up. Octets of packets that don't fill a data field yet are kept for the
-/// next piece: 2041 octets at most.
+/// fills a virtual channel up.
 #[derive(Drop)]
 pub struct TmForm<'d> {
     shape: TmShape,
@@ -43,12 +45,11 @@ pub struct TmForm<'d> {
     heading: Heading,
     // The packets of this virtual channel that weren't taken.
     packets: &'d [Vec<u8>],
-    // The octets of the taken packets that don't fill a data field yet: the front of the next data
-    // field.
+    // The octets at the end of the last taken packet that don't fill a data field: the front of the
+    // next data field. The next packet starts after them.
+    tail: &'d [u8],
+    // Empty between pieces. The last octets of a virtual channel are filled up in it.
     octets: Vec<u8>,
-    // The offset in the next data field at which its first packet starts. Where no taken packet
-    // starts in the field, this is the offset at which the next packet will start.
-    start: u16,
 }
 
 // The values in the header of a frame, without the first header pointer.
@@ -125,8 +126,8 @@ impl<'d> TmForm<'d> {
                 vc_count: 0,
             },
             packets: delivered.list(0),
+            tail: &[],
             octets: Vec::new(alloc),
-            start: 0,
         }
     }
 
@@ -178,45 +179,95 @@ impl<'d> TmForm<'d> {
         ensures capacity { vec_capacity form.old ≤ vec_capacity form.new }
     {
         loop {
-            if let Some((packet, later)) = self.packets.split_first() {
-                // With this memory reserved, adding isn't refused any. The same holds below.
-                reserve_piece(&mut self.octets, form)?;
-                let packet = packet.as_slice();
-                let frames = add_packet(
+            let wanted = usize::from(self.shape.room()) - self.tail.len();
+            if let Some(field) = next_field(self.packets, wanted) {
+                form.reserve(PIECE_ROOM)?;
+                let (frames, tail) = add_packets(
+                    form,
+                    &self.shape,
+                    self.heading,
+                    self.tail,
+                    &field,
+                )?;
+                self.heading = self.heading.after(frames);
+                self.packets = field.later;
+                self.tail = tail;
+                return Ok(true);
+            } else if are_left(self.tail, self.packets) {
+                let frames = add_last(
                     form,
                     &mut self.octets,
                     &self.shape,
                     self.heading,
-                    self.start,
-                    packet,
-                )?;
-                self.packets = later;
-                self.heading = self.heading.after(frames);
-                if frames > 0 {
-                    self.start = self.octets.len() as u16;
-                    return Ok(true);
-                }
-            } else if !self.octets.is_empty() {
-                reserve_piece(&mut self.octets, form)?;
-                let frames = add_filling(
-                    form,
-                    &mut self.octets,
-                    &self.shape,
-                    self.heading,
-                    self.start,
+                    self.tail,
+                    self.packets,
                 )?;
                 self.heading = self.heading.after(frames);
+                self.packets = &[];
+                self.tail = &[];
                 return Ok(true);
             } else if self.heading.vc < 7 {
                 self.heading.vc += 1;
                 self.heading.vc_count = 0;
                 self.packets = self.delivered.list(u16::from(self.heading.vc));
-                self.start = 0;
             } else {
                 return Ok(false);
             }
         }
     }
+}
+
+// Whether octets or packets are left.
+fn are_left(tail: &[u8], packets: &[Vec<u8>]) -> bool
+    ensures some { result ≡ true → 0 < length tail.now + length packets.now }
+    ensures none { result ≡ false → length tail.now + length packets.now ≡ 0 }
+{
+    !tail.is_empty() || !packets.is_empty()
+}
+
+// The packets at the front of a list that fill a data field up.
+#[derive(Clone, Copy)]
+struct FieldPackets<'d> {
+    // Those that lie in the field whole.
+    inside: &'d [Vec<u8>],
+    // The octets of the next packet that fill the field, and the other octets of this packet.
+    head: &'d [u8],
+    rest: &'d [u8],
+    // The packets after it.
+    later: &'d [Vec<u8>],
+}
+
+// The packets at the front of a list that have `wanted` octets or more together. `None` where all
+// of them have fewer.
+fn next_field(packets: &[Vec<u8>], wanted: usize) -> Option<FieldPackets<'_>>
+    requires some { 0 < wanted }
+    // The packets are divided.
+    ensures packets { IfSome result (λ field. map vec_items packets.now
+        ≡ map vec_items field.inside.now
+        ++ ((field.head.now ++ field.rest.now) ∷ map vec_items field.later.now)) }
+    ensures filled { IfSome result (λ field.
+        length (concat (map vec_items field.inside.now)) + length field.head.now ≡ wanted) }
+    ensures some { IfSome result (λ field. 0 < length field.head.now) }
+    ensures none { IfNone result (length (concat (map vec_items packets.now)) < wanted) }
+{
+    let mut missing = wanted;
+    let mut inside = 0;
+    let mut left = packets;
+    while let Some((packet, later)) = left.split_first() {
+        if missing <= packet.len() {
+            let (head, rest) = packet.as_slice().split_at(missing);
+            return Some(FieldPackets {
+                inside: packets.split_at(inside).0,
+                head,
+                rest,
+                later,
+            });
+        }
+        missing -= packet.len();
+        inside += 1;
+        left = later;
+    }
+    None
 }
 
 // Reserves memory for the next piece: for the octets that are kept, and for frames.
@@ -235,63 +286,167 @@ fn reserve_piece(octets: &mut Vec<u8>, form: &mut Vec<u8>) -> Result<(), AllocEr
     form.reserve(PIECE_ROOM)
 }
 
-// Adds the frames that the kept octets and then a packet fill. Keeps the octets beyond these
-// frames, and answers the number of frames. The first packet of the first frame starts at `start`,
-// and no packet starts in the other frames.
-fn add_packet(
+// Adds the frames that octets and then packets fill. Answers their number, and the octets beyond
+// these frames. The first packet of the first frame starts after the `tail`, and no packet starts
+// in the other frames.
+fn add_packets<'d>(
     form: &mut Vec<u8>,
-    octets: &mut Vec<u8>,
     shape: &TmShape,
     heading: Heading,
-    start: u16,
-    packet: &[u8],
-) -> Result<usize, AllocError>
+    tail: &[u8],
+    field: &FieldPackets<'d>,
+) -> Result<(usize, &'d [u8]), AllocError>
     requires spacecraft { heading.spacecraft ≤ 1023 }
     requires vc { heading.vc ≤ 7 }
-    requires start { start < field_room_of shape.now }
-    requires few { length octets.old.items < field_room_of shape.now }
-    requires short { length packet.now ≤ longest_packet }
+    requires whole { length ((tail.now ++ concat (map vec_items field.now.inside.now))
+        ++ field.now.head.now) ≡ field_room_of shape.now }
+    requires some { 0 < length field.now.head.now }
+    requires short { length (field.now.head.now ++ field.now.rest.now) ≤ longest_packet }
     // The octets are divided into the data fields of frames, and the octets beyond these are kept.
     ensures frames { OnOk result (form.new.items ≡ form.old.items
-        ++ filled_frames shape.now heading (Some start) (octets.old.items ++ packet.now)) }
-    ensures beyond { OnOk result (octets.new.items
-        ≡ beyond_fields shape.now (octets.old.items ++ packet.now)) }
-    ensures count { IfOk result (λ frames. frames
-        ≡ fields_in shape.now (octets.old.items ++ packet.now)) }
-    ensures few { length octets.new.items < field_room_of shape.now }
+        ++ filled_frames shape.now heading (Some (length tail.now))
+        ((tail.now ++ concat (map vec_items field.now.inside.now))
+        ++ (field.now.head.now ++ field.now.rest.now))) }
+    ensures beyond { IfOk result (λ added. added.1.now ≡ beyond_fields shape.now
+        ((tail.now ++ concat (map vec_items field.now.inside.now))
+        ++ (field.now.head.now ++ field.now.rest.now))) }
+    ensures count { IfOk result (λ added. added.0 ≡ fields_in shape.now
+        ((tail.now ++ concat (map vec_items field.now.inside.now))
+        ++ (field.now.head.now ++ field.now.rest.now))) }
+    ensures some { IfOk result (λ added. 0 < added.0) }
+    ensures few { IfOk result (λ added. length added.1.now < field_room_of shape.now) }
 
     // Memory is refused only where it wasn't reserved, and none is given back.
-    ensures full { OnErr result (octets_room ≤ vec_capacity octets.old
-        → vec_capacity form.old < vec_len form.old + piece_room) }
-    ensures keeps { vec_capacity octets.old ≤ vec_capacity octets.new }
+    ensures full { OnErr result (vec_capacity form.old < vec_len form.old + piece_room) }
     ensures capacity { vec_capacity form.old ≤ vec_capacity form.new }
 {
+    let FieldPackets {
+        inside,
+        head,
+        rest,
+        ..
+    } = *field;
     let field_len = usize::from(shape.room());
-    let wanted = field_len - octets.len();
-    if packet.len() < wanted {
-        octets.extend_from_slice(packet)?;
-        return Ok(0);
-    }
-    // The kept octets and the head of the packet fill the first frame. The later frames have octets
-    // of the packet alone.
-    let (head, rest) = packet.split_at(wanted);
-    octets.extend_from_slice(head)?;
-    let whole = PacketOctets {
-        first: Some(start),
-        octets: octets.as_slice(),
-    };
-    let pushed = push_fields(form, shape, heading, &whole);
-    // Cleared at a refusal too, so that fewer octets than a data field has are kept (clause `few`).
-    // None comes in `TmForm::next`, which has reserved the memory.
-    octets.clear();
-    pushed?;
+    push_first(form, shape, heading, tail, inside, head)?;
+    // The later frames have octets of one packet alone.
     let later = PacketOctets {
         first: None,
         octets: rest,
     };
     push_fields(form, shape, heading.after(1), &later)?;
-    octets.extend_from_slice(&rest[rest.len() - rest.len() % field_len..])?;
-    Ok(rest.len() / field_len + 1)
+    let beyond = rest.split_at(rest.len() - rest.len() % field_len).1;
+    Ok((rest.len() / field_len + 1, beyond))
+}
+
+// Adds a frame whose data field is a tail of octets, packets, and the head of a packet. Its first
+// packet starts after the tail.
+fn push_first(
+    form: &mut Vec<u8>,
+    shape: &TmShape,
+    heading: Heading,
+    tail: &[u8],
+    inside: &[Vec<u8>],
+    head: &[u8],
+) -> Result<(), AllocError>
+    requires spacecraft { heading.spacecraft ≤ 1023 }
+    requires vc { heading.vc ≤ 7 }
+    requires roomy { 0 < field_room_of shape.now }
+    requires start { length tail.now < 2047 }
+    requires whole { length ((tail.now ++ concat (map vec_items inside.now)) ++ head.now)
+        ≡ field_room_of shape.now }
+    ensures frame { OnOk result (form.new.items ≡ form.old.items
+        ++ headed_frame shape.now heading (Some (length tail.now))
+        ((tail.now ++ concat (map vec_items inside.now)) ++ head.now)) }
+
+    // Memory is refused only where `form` had no room for the frame, and none is given back.
+    ensures full { OnErr result (vec_capacity form.old < vec_len form.old + shape.now.len) }
+    ensures capacity { vec_capacity form.old ≤ vec_capacity form.new }
+{
+    let begin = form.len();
+    form.extend_from_slice(&frame_header(heading, tail.len() as u16))?;
+    form.extend_from_slice(tail)?;
+    push_all(form, inside)?;
+    form.extend_from_slice(head)?;
+    if !shape.fecf() {
+        return Ok(());
+    }
+    let field = fecf_field(&form.as_slice()[begin..]);
+    form.extend_from_slice(&field)?;
+    Ok(())
+}
+
+// The primary header of a frame in which a packet starts, the first one at the offset `first`.
+fn frame_header(heading: Heading, first: u16) -> [u8; 6]
+    requires spacecraft { heading.spacecraft ≤ 1023 }
+    requires vc { heading.vc ≤ 7 }
+    requires first { first < 2047 }
+    ensures { result ≡ octets_of 6 (frame_fields heading.spacecraft heading.vc heading.mc_count
+        heading.vc_count (Some first)) }
+{
+    let Heading {
+        spacecraft,
+        vc,
+        mc_count,
+        vc_count,
+    } = heading;
+    TmHeader::of_packets(spacecraft, vc, mc_count, vc_count, first).write()
+}
+
+// Adds the octets of packets.
+fn push_all(out: &mut Vec<u8>, packets: &[Vec<u8>]) -> Result<(), AllocError>
+    ensures added { OnOk result (out.new.items
+        ≡ out.old.items ++ concat (map vec_items packets.now)) }
+    ensures full { OnErr result (vec_capacity out.old
+        < vec_len out.old + length (concat (map vec_items packets.now))) }
+    ensures capacity { vec_capacity out.old ≤ vec_capacity out.new }
+{
+    let mut left = packets;
+    while let Some((packet, later)) = left.split_first() {
+        out.extend_from_slice(packet.as_slice())?;
+        left = later;
+    }
+    Ok(())
+}
+
+// Fills the last octets of a virtual channel up by an idle packet, and adds the frames that they
+// fill then. Answers the number of frames. The octets are the `tail` and those of the packets,
+// which start after it.
+fn add_last(
+    form: &mut Vec<u8>,
+    octets: &mut Vec<u8>,
+    shape: &TmShape,
+    heading: Heading,
+    tail: &[u8],
+    packets: &[Vec<u8>],
+) -> Result<usize, AllocError>
+    requires spacecraft { heading.spacecraft ≤ 1023 }
+    requires vc { heading.vc ≤ 7 }
+    requires empty { octets.old.items ≡ [] }
+    requires few { length (tail.now ++ concat (map vec_items packets.now))
+        < field_room_of shape.now }
+    ensures frames { OnOk result (form.new.items ≡ form.old.items
+        ++ filled_frames shape.now heading (Some (length tail.now))
+        (filled_up shape.now (tail.now ++ concat (map vec_items packets.now)))) }
+    ensures count { IfOk result (λ frames. frames ≡ fields_in shape.now
+        (filled_up shape.now (tail.now ++ concat (map vec_items packets.now)))) }
+    ensures empty { octets.new.items ≡ [] }
+
+    // Memory is refused only where it wasn't reserved, and then nothing is added. None is given
+    // back.
+    ensures unchanged { OnErr result (form.new.items ≡ form.old.items) }
+    ensures full { OnErr result (octets_room ≤ vec_capacity octets.old
+        → vec_capacity form.old < vec_len form.old + piece_room) }
+    ensures keeps { vec_capacity octets.old ≤ vec_capacity octets.new }
+    ensures capacity { vec_capacity form.old ≤ vec_capacity form.new }
+{
+    // For the proof alone, at no cost: the range of the length of a data field.
+    let _ = shape.room();
+    reserve_piece(octets, form)?;
+    // With this memory reserved, adding isn't refused any.
+    octets.extend_from_slice(tail)?;
+    push_all(octets, packets)?;
+    let frames = add_filling(form, octets, shape, heading, tail.len() as u16)?;
+    Ok(frames)
 }
 
 // Fills the kept octets up by an idle packet, and adds the frames that they fill then. Keeps no

@@ -5,6 +5,8 @@ pub mod Cut
 pub mod CutDelivery
 -- it is read as a recording
 pub mod Delivery
+-- the packets that fill the next data field
+pub mod Field
 -- the pointer to the first packet start of a field
 pub mod FieldStart
 -- the filling up to a whole data field

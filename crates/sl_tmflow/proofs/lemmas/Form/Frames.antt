@@ -69,12 +69,6 @@ module _ {format : TmFormat} {octets packet head rest : List ℕ} (s : FillsUp f
   pub fields_of_both : fields_in format (octets ++ packet) ≡ suc (fields_in format rest)
   fields_of_both = one_more_field format (octets ++ packet) (octets ++ head) rest s.roomy both s.whole
 
-  field_of_first : fields_in format (octets ++ head) ≡ 1
-  field_of_first = grind (arith, one_more_field, append-nil, zero-div)
-
-  pub frames_len_of_first : frames_len format (octets ++ head) ≡ format.len
-  frames_len_of_first = ap (λ n. n * format.len) field_of_first ∙ one-mul format.len
-
   pub frames_len_of_both : frames_len format (octets ++ packet) ≡ format.len + frames_len format rest
   frames_len_of_both = let first = ap (λ n. n * format.len) fields_of_both in let lengths = suc-mul (fields_in format rest) format.len in omega arith
 
@@ -86,15 +80,12 @@ module _ {format : TmFormat} {octets packet head rest : List ℕ} (s : FillsUp f
       ap (λ n. drop n (octets ++ packet)) at ∙ ap (drop (length (octets ++ head) + from)) both ∙ sym (drop-drop from (length (octets ++ head)) ((octets ++ head) ++ rest)) ∙ ap (drop from) (drop-append_seam (octets ++ head) rest)
 
   pub frames_of_both : (heading : Heading) (first : Option ℕ) (form form₁ form₂ : List ℕ)
-      → form₁ ≡ form ++ filled_frames format heading first (octets ++ head) → form₂ ≡ form₁ ++ filled_frames format (heading_after heading 1) None rest
+      → form₁ ≡ form ++ headed_frame format heading first (octets ++ head) → form₂ ≡ form₁ ++ filled_frames format (heading_after heading 1) None rest
       → form₂ ≡ form ++ filled_frames format heading first (octets ++ packet)
   frames_of_both heading first form form₁ form₂ one two =
       let frame = headed_frame format heading first (octets ++ head) in
       let others = filled_frames format (heading_after heading 1) None rest in
-      let alone : filled_frames format heading first (octets ++ head) ≡ frame =
-      next_field format heading first (octets ++ head) (octets ++ head) [] s.roomy (sym (append-nil (octets ++ head))) s.whole
-      ∙ ap (λ n. frame ++ field_frames format n (heading_after heading 1) None []) (zero-div (field_room_of format)) ∙ append-nil frame in
-      two ∙ ap (λ f. f ++ others) (one ∙ ap (λ f. form ++ f) alone) ∙ append_assoc form frame others
+      two ∙ ap (λ f. f ++ others) one ∙ append_assoc form frame others
       ∙ ap (λ l. form ++ l) (sym (next_field format heading first (octets ++ packet) (octets ++ head) rest s.roomy both s.whole))
 
 -- ---- the room for a piece

@@ -1,6 +1,6 @@
 -- The octets that are still to come of a normal form that is made piece by piece: what each step of the code makes of
 -- them, and that at first they are the normal form.
-use Rattle.std.proofs.Common.{◌≡◌, ◌≢◌, ℕ, zero, suc, ◌+◌, ◌-◌, ◌*◌, ◌/◌, ◌%◌, ◌<◌, ◌≤◌, List, [], ◌∷◌, ◌++◌, length, take, drop, map, Option, Some, refl, sym, ◌∙◌, ap, ap₂, subst, arith, inl, inr, length-append, append_assoc, append-nil}
+use Rattle.std.proofs.Common.{◌≡◌, ◌≢◌, ℕ, zero, suc, ◌+◌, ◌-◌, ◌*◌, ◌/◌, ◌%◌, ◌<◌, ◌≤◌, ◌==◌, false, List, [], ◌∷◌, ◌++◌, length, take, drop, map, ne_eqb, Option, Some, refl, sym, ◌∙◌, ap, ap₂, subst, arith, inl, inr, length-append, append_assoc, append-nil}
 use Rattle.std.specs.List.{AllByRecursion, concat, range_with_len, slice_index_or}
 use Rattle.std.proofs.lemmas.Bool.Decides.{eqb_tells}
 use Rattle.std.proofs.lemmas.List.{length-take, drop_all, drop_more, get_or-take}
@@ -23,7 +23,7 @@ use Rattle.sl_tmflow.specs.declared.form.TmForm.TheInside.{Inside}
 use Rattle.sl_tmflow.proofs.lemmas.Form.Delivery.{short_room, wide_room}
 use Rattle.sl_tmflow.proofs.lemmas.Form.FieldStart.{found_in}
 use Rattle.sl_tmflow.proofs.lemmas.Form.Fill.{fill_is_least, filled_octets, filled_whole, no_filling}
-use Rattle.sl_tmflow.proofs.lemmas.Form.Frames.{none_beyond_filling}
+use Rattle.sl_tmflow.proofs.lemmas.Form.Frames.{few_beyond, none_beyond_filling, none_filled}
 use Rattle.sl_tmflow.proofs.lemmas.Form.Pieces.{IsPending, beyond_few, fields_are, found_here, no_frames, numbered, numbered_later, pending_next, starts_here, starts_no_later, two_ranges}
 
 -- ---- the code's steps
@@ -47,6 +47,55 @@ module _ (format : TmFormat) (h h' : Heading) (start start' : ℕ) (octets octet
       → form_left format h start octets packets (drop (h.vc + 1) lists) ≡ filled_frames format h (Some start) (filled_up format octets) ++ form_left format h' start' octets' packets (drop (h'.vc + 1) lists)
   unfolding form_left
   fills_up wide short some none beyond many head = rw (none, head, beyond ∙ none_beyond_filling format octets wide short, many) (last_frames format h start octets _ some)
+
+-- a frame count stays where no frame is made
+pub same_heading : (h : Heading) → h.mc_count < 256 → h.vc_count < 256 → heading_after h 0 ≡ h
+same_heading h mc vc =
+    let mc_is : (h.mc_count + 0) % 256 ≡ h.mc_count = omega (arith, mc) in
+    let vc_is : (h.vc_count + 0) % 256 ≡ h.vc_count = omega (arith, vc) in
+    rw (mc_is, vc_is) refl
+
+-- packets that don't fill a data field are taken
+takes_inside : (format : TmFormat) (h : Heading) (start : ℕ) (octets : List ℕ) (inside packets : List (List ℕ)) (others : Heading → List ℕ)
+    → heading_after h 0 ≡ h → length (octets ++ concat inside) < field_room_of format
+    → channel_left format h start octets (inside ++ packets) others ≡ channel_left format h start (octets ++ concat inside) packets others
+takes_inside format h start octets [] packets others same few = ap (λ o. channel_left format h start o packets others) (sym (append-nil octets))
+takes_inside format h start octets (packet ∷ inside) packets others same few =
+    let all = octets ++ packet in
+    let parts = append_assoc octets packet (concat inside) in
+    let below : length all < field_room_of format = omega (arith, few, ap length parts, length-append all (concat inside)) in
+    rw (few_beyond format all below, none_filled format all below, same)
+    (takes_inside format h start all inside packets others same (omega (arith, few, ap length parts))
+    ∙ ap (λ o. channel_left format h start o packets others) parts)
+
+module _ (format : TmFormat) (h h' : Heading) (tail : List ℕ) (packets : List (List ℕ)) (lists : List (List (List ℕ))) (frames : ℕ) where
+  -- packets fill a data field, and maybe more
+  pub takes_field : (inside packets' : List (List ℕ)) (packet tail' : List ℕ) → heading_after h 0 ≡ h → packets ≡ inside ++ (packet ∷ packets')
+      → length (tail ++ concat inside) < field_room_of format → tail' ≡ beyond_fields format ((tail ++ concat inside) ++ packet)
+      → frames ≡ fields_in format ((tail ++ concat inside) ++ packet) → 0 < frames → h' ≡ heading_after h frames
+      → form_left format h (length tail) tail packets (drop (h.vc + 1) lists)
+      ≡ filled_frames format h (Some (length tail)) ((tail ++ concat inside) ++ packet) ++ form_left format h' (length tail') tail' packets' (drop (h'.vc + 1) lists)
+  unfolding form_left
+  takes_field inside packets' packet tail' same are few beyond many some head =
+      let others = λ (k : Heading). lists_left format (next_channel k) (drop (h.vc + 1) lists) in
+      let test : (frames == 0) ≡ false = ne_eqb frames 0 (λ none. absurd (omega (arith, some, none))) in
+      let next : length tail' ≡ start_after (length tail) frames tail' = rw (test) refl in
+      ap (λ l. channel_left format h (length tail) tail l others) are
+      ∙ takes_inside format h (length tail) tail inside (packet ∷ packets') others same few
+      ∙ takes_packet format h h' (length tail) (length tail') (tail ++ concat inside) tail' (packet ∷ packets') packets' lists frames packet refl beyond many head next
+
+  -- the last octets of a virtual channel are filled up
+  pub fills_last : 7 ≤ field_room_of format → field_room_of format ≤ 65536 → heading_after h 0 ≡ h → 0 < length (tail ++ concat packets)
+      → length (tail ++ concat packets) < field_room_of format → frames ≡ fields_in format (filled_up format (tail ++ concat packets)) → h' ≡ heading_after h frames
+      → form_left format h (length tail) tail packets (drop (h.vc + 1) lists)
+      ≡ filled_frames format h (Some (length tail)) (filled_up format (tail ++ concat packets)) ++ form_left format h' 0 [] [] (drop (h'.vc + 1) lists)
+  unfolding form_left
+  fills_last wide short same some few many head =
+      let others = λ (k : Heading). lists_left format (next_channel k) (drop (h.vc + 1) lists) in
+      let octets = tail ++ concat packets in
+      ap (λ l. channel_left format h (length tail) tail l others) (sym (append-nil packets))
+      ∙ takes_inside format h (length tail) tail packets [] others same few
+      ∙ fills_up format h h' (length tail) 0 octets [] [] [] lists frames wide short some refl (sym (none_beyond_filling format octets wide short)) many head
 
 module _ (format : TmFormat) (h : Heading) (start : ℕ) (lists : List (List (List ℕ))) where
   -- the next virtual channel comes
@@ -264,10 +313,10 @@ none_at_all format spacecraft lists none =
     get_or-take 8 lists channel [] inside ∙ none channel inside)
 
 -- octets are still to come where some are kept or packets are left
-pub octets_come : (f : Inside) → IsTmForm f → 0 < length f.octets.items + length (map vec_items f.packets.now) → octets_to_come f ≢ []
+pub octets_come : (f : Inside) → IsTmForm f → 0 < length f.tail.now + length (map vec_items f.packets.now) → octets_to_come f ≢ []
 unfolding form_left
 octets_come f is some none =
     let wide = wide_room f.shape is.format in
     let short = short_room f.shape is.format in
-    let long = some_left f.shape (omega (arith, wide)) (omega (arith, short)) (map vec_items f.packets.now) f.heading f.start f.octets.items (λ k. lists_left f.shape (next_channel k) (drop (f.heading.vc + 1) (take 8 f.delivered.now.lists))) is.deliverable some in
+    let long = some_left f.shape (omega (arith, wide)) (omega (arith, short)) (map vec_items f.packets.now) f.heading (length f.tail.now) f.tail.now (λ k. lists_left f.shape (next_channel k) (drop (f.heading.vc + 1) (take 8 f.delivered.now.lists))) is.deliverable some in
     absurd (omega (arith, long, ap length none))

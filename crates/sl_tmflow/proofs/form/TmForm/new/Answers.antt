@@ -14,7 +14,7 @@ format_is c = record { least = omega (arith, c.len.ensures.value, c.len.ensures.
 pub returns-clause-left : goal.returns-clause-left
 returns-clause-left c =
     let is = format_is (goal.at.returns-clause-left c).After-len in
-    rw (c.new.ensures.items, c.list.ensures.packets)
+    rw (c.list.ensures.packets)
     (all_left c.args.shape.now c.args.spacecraft c.args.delivered.now.lists (omega (arith, wide_room c.args.shape.now is)) (omega (arith, short_room c.args.shape.now is)))
 
 pub returns-clause-delivers : goal.returns-clause-delivers

@@ -1,5 +1,5 @@
 -- The counts of the series that are incomplete, one frame after another.
-use Rattle.std.proofs.Common.{◌≡◌, ℕ, ◌+◌, ◌*◌, ◌/◌, ◌%◌, ◌<◌, Bool, List, [], ◌∷◌, ◌++◌, map, set, length, Option, None, Some, refl, sym, subst, ap, ap₂, arith, ◌∙◌}
+use Rattle.std.proofs.Common.{◌≡◌, ℕ, ◌/◌, ◌%◌, ◌<◌, Bool, List, [], ◌∷◌, ◌++◌, map, set, length, Option, None, Some, refl, sym, subst, ap, ap₂, arith, ◌∙◌}
 use Rattle.std.specs.List.{range_with_len}
 use Rattle.std.proofs.lemmas.List.{get_or-set_other, get_or-set_same}
 use Rattle.std.proofs.lemmas.List.FromFn.{get_or-map-range_with_len, length-map-range_with_len}
@@ -11,7 +11,7 @@ use Rattle.sl_tcflow.specs.Anomaly.{IsReportOnFrame}
 use Rattle.sl_tcflow.specs.CountStore.{CountsEach, count_at}
 use Rattle.sl_tcflow.specs.Farms.{HaveStepped, verdict_on}
 use Rattle.sl_tcflow.specs.Incomplete.{incomplete_of}
-use Rattle.sl_tcflow.specs.IncompleteSteps.{IsReportOnSegment, empty_report, incomplete_with, packets_with}
+use Rattle.sl_tcflow.specs.IncompleteSteps.{IsReportOnSegment, incomplete_with, packets_with}
 use Rattle.sl_tcflow.specs.Receiver.{AreIncomplete, ended_by, segment_by, unit_map}
 use Rattle.sl_tcflow.specs.Reception.{segments_of}
 use Rattle.sl_tcflow.specs.ReceptionParameters.{ReceptionParameters}

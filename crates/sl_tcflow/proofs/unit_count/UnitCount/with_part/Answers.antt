@@ -1,4 +1,4 @@
-use Rattle.std.proofs.Common.{◌≡◌, ◌+◌, ◌++◌, Bool, true, false, ℕ, not, if◌then◌else◌, refl, sym, ap, arith, subst, drop, ◌∙◌}
+use Rattle.std.proofs.Common.{◌≡◌, ◌+◌, ◌++◌, Bool, true, false, ℕ, not, if◌then◌else◌, refl, ap, arith, subst, drop, ◌∙◌}
 use mir.Val.{bool_byte as from_bool}
 use Rattle.sl_packet.specs.Packets.{rest_of}
 use Rattle.sl_tcflow.specs.UnitCount.{IsCountOf}

@@ -1,4 +1,4 @@
-use Rattle.std.proofs.Common.{◌++◌, length, map, ap, arith, length-append}
+use Rattle.std.proofs.Common.{length, map, ap, arith, length-append}
 use Rattle.std.specs.List.{concat}
 use Rattle.std.specs.Vec.{vec_items}
 use Rattle.sl_packet.proofs.StoppingLemmas.{on_err}

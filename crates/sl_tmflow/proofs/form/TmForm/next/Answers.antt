@@ -1,4 +1,4 @@
-use Rattle.std.proofs.Common.{◌≡◌, ◌+◌, ◌-◌, ◌<◌, ◌≤◌, ◌++◌, ◌∙◌, ℕ, [], ◌∷◌, Some, ap, arith, drop, length, length-append, map, rules, refl, slice_index_or, sym, subst, take}
+use Rattle.std.proofs.Common.{◌<◌, ◌≤◌, ◌++◌, ◌∙◌, [], ◌∷◌, Some, ap, arith, length, length-append, map, rules, slice_index_or, sym, subst, take}
 use Rattle.std.proofs.lemmas.List.{length-map, nil_from_length}
 use Rattle.std.specs.List.{AllByRecursion, concat}
 use Rattle.std.specs.Vec.{vec_items}
@@ -7,7 +7,6 @@ use Rattle.sl_packet.specs.Delivered.{IsDeliverable}
 use Rattle.sl_tmframe.specs.PacketFrame.{field_room_of}
 use Rattle.sl_tmflow.specs.Form.{fields_in, filled_up, filled_frames}
 use Rattle.sl_tmflow.specs.declared.form.Heading.{Heading}
-use Rattle.sl_tmflow.proofs.lemmas.Form.Delivery.{short_room, wide_room}
 use Rattle.sl_tmflow.proofs.lemmas.Form.Field.{in_the_middle, is_short, some_octets}
 use Rattle.sl_tmflow.proofs.lemmas.Form.Left.{fills_last, next_comes, none_comes, octets_come, same_heading, some_filled, some_frames, takes_field}
 use Rattle.sl_tmflow.proofs.form.TmForm.next.Goals as goal

@@ -5,7 +5,6 @@ ghost use Rattle.sl_packet.specs.Packets.{without_idle};
 ghost use Rattle.sl_packet.specs.Stopping.{IsStopped};
 ghost use Rattle.sl_engine.specs.Kind.Delivery.{Brings, Delivers};
 
-mod discard;
 pub mod tc;
 pub mod tm;
 
@@ -94,7 +93,7 @@ pub trait Deliverer: Followed {
 }
 
 /// Counts the packets of frames of one kind, as a deliverer has them, and reports the same of the
-/// frames. Of TM packets it keeps no octets but those of a header, so it takes no memory.
+/// frames. Of a packet it keeps no octets but those of its header.
 pub trait Counter: Followed {
     ghost use Rattle.sl_engine.specs.Link.Managed.{Parameters};
 

@@ -24,7 +24,7 @@ use crate::verbs::packets::ListPackets;
 use crate::verbs::show::Show;
 use crate::verbs::show::shown::TmFrames;
 use sl_io::{Counted, LinkFault};
-use sl_tcflow::{Farms, Receiver};
+use sl_tcflow::{Farms, Receiver, UnitCounter};
 use sl_tmflow::{Extractor, PacketCounter};
 use std::alloc::Global;
 use std::io::{Read, Write};
@@ -134,9 +134,9 @@ pub fn check_tm<R: Read, W: Write>(
 /// and then one of its totals (docs/listings.md).
 ///
 /// It keeps what was read last and the lines that aren't written yet, at most 65,536 octets each,
-/// one frame at most that began in an earlier read, the FARM-1 of 64 virtual channels, and the
-/// series of segments that is incomplete on each MAP. No clause says what is kept: that is seen by
-/// reading.
+/// one frame at most that began in an earlier read, the FARM-1 of 64 virtual channels, and for each
+/// of the 4,096 MAPs 24 octets at most, which count its incomplete series. No clause says what is
+/// kept: that is seen by reading.
 ///
 /// The fault is `Read` or `Write` where the reader or the writer had one, `TooLong` where more
 /// octets came than the managed limit, and `Memory` where memory was refused. Memory is refused
@@ -165,7 +165,7 @@ pub fn check_tc<R: Read, W: Write>(
         (tc_frames_of (tc_format managed.now)) (IsIncompleteAtLastTc managed.now)) }
 {
     let mut buffer = [0; CHUNK_SIZE];
-    let mut verb = Check::<Receiver>::begin(alloc, managed);
+    let mut verb = Check::<UnitCounter>::begin(alloc, managed);
     list(managed, &mut verb, reader, writer, &mut buffer)
 }
 

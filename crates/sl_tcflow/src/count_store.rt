@@ -1,6 +1,6 @@
 //! The counts of the incomplete series of the MAPs of all virtual channels.
-ghost use Rattle.std.specs.Prelude.{◌≡◌, ◌≢◌, ◌≤◌, ◌<◌, ◌+◌, None, option_map, ℕ, List, Option, length};
-ghost use Rattle.std.specs.Prelude.{IfSome};
+ghost use Rattle.std.specs.Prelude.{◌≡◌, ◌≢◌, ◌≤◌, ◌<◌, ◌+◌, [], None, option_map, ℕ, List, Option};
+ghost use Rattle.std.specs.Prelude.{length, IfSome, IfOk, OnErr, OnOk};
 ghost use Rattle.sl_packet.specs.Delivered.{channel_count};
 ghost use Rattle.sl_packet.specs.Packet.{longest_packet};
 ghost use Rattle.sl_tcflow.specs.CountStore.{CountsEach, count_at};
@@ -10,16 +10,19 @@ ghost use Rattle.sl_tcflow.specs.SeriesStore.{at, IsPlaced};
 ghost use Rattle.sl_tcflow.specs.UnitCount.{ForSeriesOf, ReportsPackets};
 
 use crate::report::TcStep;
-use crate::segment::{CHANNELS, Segment};
+use crate::segment::{CHANNELS, FIRST, Segment};
 use crate::series_count::{advance, held};
 use crate::unit_count::UnitCount;
+use std::alloc::{AllocError, Global};
 use std::marker::Model;
 
 /// The counts of the incomplete series, by channel. The channel of a virtual channel and a MAP is
-/// 64 times the virtual channel plus the MAP. All counts stand in place: no memory is taken.
+/// 64 times the virtual channel plus the MAP.
 #[derive(Drop)]
 pub struct CountStore {
-    list: [Option<UnitCount>; 4096],
+    // The count of each channel's incomplete series, if there is one. The list reaches up to the
+    // greatest channel on which a first segment has come.
+    list: Vec<Option<UnitCount>>,
 }
 
 impl Model for CountStore {
@@ -28,16 +31,17 @@ impl Model for CountStore {
 
     ghost Value = { List (Option UnitCount) };
 
-    ghost view = { λ s. s.list };
+    ghost view = { λ s. s.list.items };
 }
 
 impl CountStore {
-    /// A store in which no series is incomplete.
-    #[inline(always)]
-    pub fn new() -> CountStore
-        ensures { (channel : ℕ) → channel < channel_count → count_at result channel ≡ None }
+    /// A store in which no series is incomplete. It holds no memory yet.
+    pub fn new(alloc: Global) -> CountStore
+        ensures { result ≡ [] }
     {
-        CountStore { list: [None; 4096] }
+        CountStore {
+            list: Vec::new(alloc),
+        }
     }
 
     /// The number of octets so far of the incomplete series on the virtual channel `vc` and the MAP
@@ -49,7 +53,10 @@ impl CountStore {
             result ≡ option_map length before) }
         ensures most { IfSome result (λ octets. octets ≤ longest_packet) }
     {
-        held(&self.list[64 * usize::from(vc) + usize::from(map)])
+        match self.list.get(64 * usize::from(vc) + usize::from(map)) {
+            Some(series) => held(series),
+            None => None,
+        }
     }
 
     /// The least number from which on no channel has an incomplete series, 0 to 4096: one more than
@@ -63,27 +70,41 @@ impl CountStore {
         ensures least { (channel : ℕ) → result ≡ channel + 1
             → count_at self.now channel ≢ None }
     {
-        let mut from = CHANNELS;
-        while 0 < from && self.list[usize::from(from - 1)].is_none() {
+        // The list never has more places than there are channels. `min` shows it, in place of an
+        // invariant.
+        let mut from = self.list.len().min(usize::from(CHANNELS));
+        while 0 < from && self.list[from - 1].is_none() {
             from -= 1;
         }
-        from
+        from as u16
     }
 
     /// Takes the next segment of a channel, and reports the packets of the service data unit that
-    /// ends with the segment and the segment's anomalies.
+    /// ends with the segment and the segment's anomalies. Memory is refused only where the segment
+    /// begins a series.
     #[inline]
-    pub fn take_segment(&mut self, segment: &Segment) -> TcStep
+    pub fn take_segment(&mut self, segment: &Segment) -> Result<TcStep, AllocError>
         // `old` is any list of the octets so far of the incomplete series that have these counts.
         // The series of the channel continues, begins or ends as the sequence flags say.
-        ensures counts { (old new : List (Option (List ℕ))) → CountsEach old self.old
+        ensures counts { OnOk result ((old new : List (Option (List ℕ))) → CountsEach old self.old
             → IsPlaced old segment.now.channel (incomplete_with (at old segment.now.channel)
-            segment.now.flags segment.now.octets) new → CountsEach new self.new }
-        ensures step { ForSeriesOf (count_at self.old segment.now.channel) (λ before.
-            IsReportOnSegment before segment.now.flags segment.now.octets result) }
-        ensures packets { ForSeriesOf (count_at self.old segment.now.channel) (λ before.
-            ReportsPackets (packets_with before segment.now.flags segment.now.octets) result) }
+            segment.now.flags segment.now.octets) new → CountsEach new self.new) }
+        ensures step { IfOk result (λ step. ForSeriesOf (count_at self.old segment.now.channel)
+            (λ before. IsReportOnSegment before segment.now.flags segment.now.octets step)) }
+        ensures packets { IfOk result (λ step. ForSeriesOf (count_at self.old segment.now.channel)
+            (λ before. ReportsPackets (packets_with before segment.now.flags segment.now.octets)
+            step)) }
+        ensures memory { OnErr result ((before : Option (List ℕ))
+            → incomplete_with before segment.now.flags segment.now.octets ≢ None) }
     {
-        advance(&mut self.list[usize::from(segment.channel)], segment)
+        let index = usize::from(segment.channel);
+        if index >= self.list.len() {
+            if segment.flags != FIRST {
+                // No series is incomplete there, and none begins.
+                return Ok(advance(&mut None, segment));
+            }
+            self.list.resize(index + 1, None)?;
+        }
+        Ok(advance(&mut self.list[index], segment))
     }
 }

@@ -1,11 +1,12 @@
 //! Packets from the frames that FARM-1 accepts, counted and not handed over.
 ghost use Rattle.std.specs.Prelude.{◌≡◌, ◌≢◌, ◌≤◌, ◌+◌, ◌++◌, ◌∷◌, [], ℕ, length, is_some, None};
+ghost use Rattle.std.specs.Prelude.{IfOk, OnErr, OnOk};
 ghost use Rattle.sl_packet.specs.Packets.{only_idle, without_idle};
 ghost use Rattle.sl_tcflow.specs.Anomaly.{IsReportOnFrame, dropped_by, held_of, long_by, stray_by};
 ghost use Rattle.sl_tcflow.specs.Anomaly.{tail_by};
 ghost use Rattle.sl_tcflow.specs.Farms.{verdict_on};
 ghost use Rattle.sl_tcflow.specs.Incomplete.{incomplete_of};
-ghost use Rattle.sl_tcflow.specs.Receiver.{ended_by, unit_map};
+ghost use Rattle.sl_tcflow.specs.Receiver.{IsIncompleteAround, ended_by, unit_map};
 ghost use Rattle.sl_tcflow.specs.Reception.{segments_of};
 ghost use Rattle.sl_tcflow.specs.ReceptionParameters.{ReceptionParameters};
 ghost use Rattle.sl_tcflow.specs.Recording.{channel_at};
@@ -18,12 +19,13 @@ use crate::report::{EMPTY_STEP, TcStep};
 use crate::segment::{accepted_segment, carried_segment, map_in};
 use sl_cop::{Starts, Verdict, Window};
 use sl_tcframe::{TcFrame, VcSet};
+use std::alloc::{AllocError, Global};
 use std::marker::Model;
 
 /// Counts the packets that a [`Receiver`](crate::Receiver) delivers from the same frames, and
 /// reports the same anomalies. Of a service data unit that comes in parts the counter keeps no
-/// octets but those of a packet's header, so no call takes memory. It is a large value itself: each
-/// of the 4,096 channels has its count in it.
+/// octets but those of a packet's header, so the memory is bounded: 24 octets for each of the 4,096
+/// channels at most, and while the list of them grows as many again and half.
 #[derive(Drop)]
 pub struct UnitCounter {
     // FARM-1 of each virtual channel.
@@ -47,9 +49,8 @@ impl Model for UnitCounter {
 impl UnitCounter {
     /// A counter that was given no frame yet. FARM-1 of each virtual channel is open, with this
     /// window and with the initial V(R) that `starts` has for the virtual channel. `plain` has the
-    /// virtual channels whose frames have no segment headers.
-    #[inline(always)]
-    pub fn new(window: Window, starts: &Starts, plain: VcSet) -> UnitCounter
+    /// virtual channels whose frames have no segment headers. The counter holds no memory yet.
+    pub fn new(alloc: Global, window: Window, starts: &Starts, plain: VcSet) -> UnitCounter
         // No frame was processed.
         ensures { HasCounted
             (record { window = window; starts = starts.now; plain = plain }) result [] }
@@ -57,44 +58,58 @@ impl UnitCounter {
         UnitCounter {
             farms: Farms::new(window, starts),
             plain,
-            series: CountStore::new(),
+            series: CountStore::new(alloc),
         }
     }
 
     /// Takes the next frame: steps FARM-1 of the frame's virtual channel, and takes the frame's
     /// unit if FARM-1 accepts it. Returns the report of what the frame brought, with the numbers of
     /// packets of the service data unit that the unit completes.
-    pub fn frame(&mut self, frame: &TcFrame) -> TcStep
+    ///
+    /// Memory is refused only where the unit is accepted and a series is incomplete on its MAP,
+    /// before the frame or after it. After that no clause says what the counter reports.
+    pub fn frame(&mut self, frame: &TcFrame) -> Result<TcStep, AllocError>
         // `r` and `views` in a clause are any parameters and any frames under which the counter may
         // have come to its state before the call. These frames and the new one are processed now,
         // and FARM-1 gave the verdict.
-        ensures processed { ForCounted self.old (λ r views.
-            HasCounted r self.new (views ++ frame.now ∷ [])) }
-        ensures verdict { ForCounted self.old (λ r views.
-            result.verdict ≡ verdict_on r views frame.now) }
+        ensures processed { OnOk result (ForCounted self.old (λ r views.
+            HasCounted r self.new (views ++ frame.now ∷ []))) }
+        ensures verdict { IfOk result (λ step. ForCounted self.old (λ r views.
+            step.verdict ≡ verdict_on r views frame.now)) }
 
         // The report has the MAP of the frame's unit.
-        ensures map { ForCounted self.old (λ r views. result.map ≡ unit_map r frame.now) }
+        ensures map { IfOk result (λ step. ForCounted self.old (λ r views.
+            step.map ≡ unit_map r frame.now)) }
 
         // The packets of the service data unit that the frame's unit completes are counted.
-        ensures packets { ForCounted self.old (λ r views.
-            result.packets ≡ length (without_idle (ended_by r views frame.now))) }
-        ensures idle { ForCounted self.old (λ r views.
-            result.idle ≡ length (only_idle (ended_by r views frame.now))) }
+        ensures packets { IfOk result (λ step. ForCounted self.old (λ r views.
+            step.packets ≡ length (without_idle (ended_by r views frame.now)))) }
+        ensures idle { IfOk result (λ step. ForCounted self.old (λ r views.
+            step.idle ≡ length (only_idle (ended_by r views frame.now)))) }
 
         // The anomalies of the frame's unit are reported, if it is accepted.
-        ensures stray { ForCounted self.old (λ r views.
-            result.stray ≡ stray_by r views frame.now) }
-        ensures dropped { ForCounted self.old (λ r views.
-            result.dropped ≡ dropped_by r views frame.now) }
-        ensures long { ForCounted self.old (λ r views.
-            result.long ≡ long_by r views frame.now) }
-        ensures tail { ForCounted self.old (λ r views.
-            result.tail ≡ tail_by r views frame.now) }
+        ensures stray { IfOk result (λ step. ForCounted self.old (λ r views.
+            step.stray ≡ stray_by r views frame.now)) }
+        ensures dropped { IfOk result (λ step. ForCounted self.old (λ r views.
+            step.dropped ≡ dropped_by r views frame.now)) }
+        ensures long { IfOk result (λ step. ForCounted self.old (λ r views.
+            step.long ≡ long_by r views frame.now)) }
+        ensures tail { IfOk result (λ step. ForCounted self.old (λ r views.
+            step.tail ≡ tail_by r views frame.now)) }
+
+        // Memory is refused only where the frame's unit is accepted and a series is incomplete on
+        // its MAP, before the frame or after it.
+        ensures memory { OnErr result (ForCounted self.old (λ r views.
+            IsIncompleteAround r views frame.now)) }
     {
         let verdict = self.farms.step(frame);
         let plain = self.plain.has(frame.vc());
-        count_unit(&mut self.series, plain, verdict, frame)
+        // `match` and not `?`, which would want a proof for each clause.
+        let step = match count_unit(&mut self.series, plain, verdict, frame) {
+            Ok(step) => step,
+            Err(error) => return Err(error),
+        };
+        Ok(step)
     }
 
     /// The number of octets so far of the series that is incomplete on the virtual channel `vc` and
@@ -143,31 +158,38 @@ impl UnitCounter {
 // Takes the unit of a frame, if the frame carries one and this verdict accepts it. `plain` says
 // that the frame's virtual channel has no segment headers.
 #[inline(always)]
-fn count_unit(series: &mut CountStore, plain: bool, verdict: Verdict, frame: &TcFrame) -> TcStep
+fn count_unit(
+    series: &mut CountStore,
+    plain: bool,
+    verdict: Verdict,
+    frame: &TcFrame,
+) -> Result<TcStep, AllocError>
     // The clauses speak of virtual channels up to 63.
     requires { frame.now.vc ≤ 63 }
     // `r` and `views` in a clause are any parameters and any frames that may have come before and
     // led to these counts and this verdict. The unit continues, ends or begins its series, and the
     // step reports its packets and its anomalies.
-    ensures counts { ForCounts plain series.old verdict frame.now (λ r views.
-        AreCounted r series.new (views ++ frame.now ∷ [])) }
-    ensures step { ForCounts plain series.old verdict frame.now (λ r views.
-        IsReportOnFrame r views frame.now result) }
-    ensures packets { ForCounts plain series.old verdict frame.now (λ r views.
-        ReportsPackets (ended_by r views frame.now) result) }
+    ensures counts { OnOk result (ForCounts plain series.old verdict frame.now (λ r views.
+        AreCounted r series.new (views ++ frame.now ∷ []))) }
+    ensures step { IfOk result (λ step. ForCounts plain series.old verdict frame.now (λ r views.
+        IsReportOnFrame r views frame.now step)) }
+    ensures packets { IfOk result (λ step. ForCounts plain series.old verdict frame.now
+        (λ r views. ReportsPackets (ended_by r views frame.now) step)) }
+    ensures memory { OnErr result (ForCounts plain series.old verdict frame.now (λ r views.
+        IsIncompleteAround r views frame.now)) }
 {
     let segment = carried_segment(frame, plain);
     let map = map_in(&segment);
     match accepted_segment(verdict, segment) {
         // The verdict is `Accept` here, as each report on a segment has it.
-        Some(segment) => {
-            let step = series.take_segment(&segment);
-            TcStep { map, ..step }
-        }
-        None => TcStep {
+        Some(segment) => match series.take_segment(&segment) {
+            Ok(step) => Ok(TcStep { map, ..step }),
+            Err(error) => Err(error),
+        },
+        None => Ok(TcStep {
             verdict,
             map,
             ..EMPTY_STEP
-        },
+        }),
     }
 }

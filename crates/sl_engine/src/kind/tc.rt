@@ -1,20 +1,19 @@
-//! The packets of TC frames, delivered or counted by a receiver.
+//! The packets of TC frames, delivered by a receiver or counted.
 ghost use Rattle.std.specs.Prelude.{◌≡◌, false, Ok};
 ghost use Rattle.sl_engine.specs.Kind.Tc.{content_ns, finding_of};
 ghost use Rattle.sl_tcframe.specs.TcContent.{content};
 
-use crate::kind::discard::DiscardPackets;
 use crate::kind::{Counter, Deliverer, Followed};
 use crate::link::managed::Managed;
 use crate::tally::{FrameReport, SKIPPED};
 use sl_cop::Verdict;
 use sl_packet::{FlowFault, PacketSink};
-use sl_tcflow::{Receiver, TcStep};
+use sl_tcflow::{Receiver, TcStep, UnitCounter};
 use sl_tcframe::{TcContent, TcFrame, TcFramer, TcSkip};
 use std::alloc::Global;
 use std::marker::Model;
 
-/// A TC frame that is read, and what a receiver finds of it.
+/// A TC frame that is read, and what a receiver or a counter finds of it.
 #[derive(Clone, Copy)]
 pub struct TcFound {
     pub vc: u8,
@@ -66,6 +65,28 @@ impl Followed for Receiver {
     ghost frames = { λ p. refl };
 }
 
+impl Followed for UnitCounter {
+    ghost use Rattle.std.specs.Prelude.{refl};
+    ghost use Rattle.sl_tcflow.specs.UnitCounter.{HasCounted};
+    ghost use Rattle.sl_engine.specs.Kind.Tc.{HasProcessedTc, tc_found, tc_kind};
+    ghost use Rattle.sl_engine.specs.Link.Managed.{reception_of};
+
+    type Framer = TcFramer;
+
+    type Found = Result<TcFound, TcSkip>;
+
+    ghost kind = { tc_kind };
+
+    ghost has_processed = { λ counter p frames.
+        HasProcessedTc p (HasCounted (reception_of p) counter) frames };
+
+    ghost found = { tc_found };
+
+    ghost within = { λ counter p frames processed. processed.within };
+
+    ghost frames = { λ p. refl };
+}
+
 impl Deliverer for Receiver {
     ghost use Rattle.sl_engine.specs.Kind.Tc.{IsIncompleteAtLastTc};
 
@@ -94,15 +115,13 @@ impl Deliverer for Receiver {
     }
 }
 
-// A `UnitCounter` needs no memory, but is some 98 KB large, and a value that is handed on is copied
-// on the stack: five times here.
-impl Counter for Receiver {
+impl Counter for UnitCounter {
     ghost use Rattle.sl_engine.specs.Kind.Tc.{IsIncompleteAtLastTc};
 
     ghost may_refuse_memory = { IsIncompleteAtLastTc };
 
-    fn begin(alloc: Global, managed: &Managed) -> Receiver {
-        Receiver::new(alloc, managed.window, &managed.starts, managed.plain)
+    fn begin(alloc: Global, managed: &Managed) -> UnitCounter {
+        UnitCounter::new(alloc, managed.window, &managed.starts, managed.plain)
     }
 
     fn count(
@@ -110,10 +129,15 @@ impl Counter for Receiver {
         managed: &Managed,
         frame: &[u8],
     ) -> Result<(FrameReport, Result<TcFound, TcSkip>), FlowFault> {
-        match self.deliver(managed, frame, &mut DiscardPackets) {
-            Ok(answer) => Ok(answer),
-            Err(fault) => Err(fault),
-        }
+        let view = match TcFrame::read(&managed.tc, managed.spacecraft, frame) {
+            Ok(view) => view,
+            Err(reason) => return Ok((SKIPPED, Err(reason))),
+        };
+        let step = match self.frame(&view) {
+            Ok(step) => step,
+            Err(_) => return Err(FlowFault::Memory),
+        };
+        Ok(report_of(&view, &step))
     }
 }
 

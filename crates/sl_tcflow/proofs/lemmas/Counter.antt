@@ -1,6 +1,7 @@
 -- The counts of the series that are incomplete, one frame after another.
-use Rattle.std.proofs.Common.{◌≡◌, ℕ, ◌/◌, ◌%◌, ◌<◌, Bool, List, [], ◌∷◌, ◌++◌, map, set, length, Option, None, Some, refl, sym, subst, ap, ap₂, arith, ◌∙◌}
+use Rattle.std.proofs.Common.{◌≡◌, ◌≢◌, ℕ, ◌/◌, ◌%◌, ◌<◌, Bool, List, [], ◌∷◌, ◌++◌, map, set, length, Option, None, Some, inl, inr, refl, sym, subst, ap, ap₂, arith, ◌∙◌}
 use Rattle.std.specs.List.{range_with_len}
+use Rattle.std.proofs.lemmas.Bool.{cases_eq}
 use Rattle.std.proofs.lemmas.List.{get_or-set_other, get_or-set_same}
 use Rattle.std.proofs.lemmas.List.FromFn.{get_or-map-range_with_len, length-map-range_with_len}
 use Rattle.sl_packet.specs.Delivered.{channel_count}
@@ -12,7 +13,7 @@ use Rattle.sl_tcflow.specs.CountStore.{CountsEach, count_at}
 use Rattle.sl_tcflow.specs.Farms.{HaveStepped, verdict_on}
 use Rattle.sl_tcflow.specs.Incomplete.{incomplete_of}
 use Rattle.sl_tcflow.specs.IncompleteSteps.{IsReportOnSegment, incomplete_with, packets_with}
-use Rattle.sl_tcflow.specs.Receiver.{AreIncomplete, ended_by, segment_by, unit_map}
+use Rattle.sl_tcflow.specs.Receiver.{AreIncomplete, IsIncompleteAround, ended_by, segment_by, unit_map}
 use Rattle.sl_tcflow.specs.Reception.{segments_of}
 use Rattle.sl_tcflow.specs.ReceptionParameters.{ReceptionParameters}
 use Rattle.sl_tcflow.specs.Recording.{channel_at}
@@ -23,7 +24,7 @@ use Rattle.sl_tcflow.specs.UnitCount.{CountsSeries, ForSeriesOf, ReportsPackets}
 use Rattle.sl_tcflow.specs.UnitCounter.{AreCounted, CounterState, ForCounted, ForCounts}
 use Rattle.sl_tcflow.specs.declared.unit_count.UnitCount.{UnitCount}
 use Rattle.sl_tcflow.proofs.lemmas.Anomaly.Report.{reported_read}
-use Rattle.sl_tcflow.proofs.lemmas.Reception.Unit.{IsReadNext, channel_read, ended_none, ended_read, incomplete_read, incomplete_same, map_fits}
+use Rattle.sl_tcflow.proofs.lemmas.Reception.Unit.{IsReadNext, around_read, channel_read, ended_none, ended_read, incomplete_read, incomplete_same, map_fits}
 
 -- ---- one series
 
@@ -74,11 +75,25 @@ module _ (n : ℕ) (all : n ≡ channel_count) (r : ReceptionParameters) (views 
       subst (λ series. CountsSeries series (count_at counts channel)) (sym (series_at channel below))
       (subst (λ i. CountsSeries (incomplete_of (segments_of r (channel / 64) (channel % 64) views)) (count_at counts i)) same (counted (channel / 64) (channel % 64) (omega arith) (omega arith)))
 
+-- ---- one series more
+
+-- the counts of a list that may have grown, with the count of one channel's series
+pub counted_set : (counts grown : List (Option UnitCount)) (channel : ℕ) (series : Option UnitCount) (old new : List (Option (List ℕ))) (value : Option (List ℕ))
+    → ((other : ℕ) → count_at grown other ≡ count_at counts other) → channel < length grown → CountsSeries value series
+    → CountsEach old counts → IsPlaced old channel value new → CountsEach new (set grown channel series)
+counted_set counts grown channel series old new value same below counted each placed other inside =
+    elim (cases_eq other channel) [
+      | inl at_channel ↦
+          subst (λ other. CountsSeries (at new other) (count_at (set grown channel series) other)) (sym at_channel)
+          (rw (placed.here, get_or-set_same grown channel series None below) counted)
+      | inr apart ↦ rw (placed.others other apart, get_or-set_other grown channel other series None apart, same other) (each other inside)
+    ]
+
 -- ---- no frame yet
 
-pub counted_new : (r : ReceptionParameters) (counts : List (Option UnitCount)) → ((channel : ℕ) → channel < channel_count → count_at counts channel ≡ None) → AreCounted r counts []
+pub counted_new : (r : ReceptionParameters) (counts : List (Option UnitCount)) → counts ≡ [] → AreCounted r counts []
 counted_new r counts none vc map_id vc_fits map_id_fits =
-    subst (λ count. CountsSeries None count) (sym (none (channel_at vc map_id) (omega arith))) tt
+    subst (λ counts. CountsSeries None (count_at counts (channel_at vc map_id))) (sym none) tt
 
 -- ---- the next frame, where the state is known
 
@@ -146,6 +161,11 @@ module _ (n : ℕ) (all : n ≡ channel_count) (r : ReceptionParameters) (counts
       subst (λ ended. ReportsPackets ended step) (sym (ended_read r old views next read is (are_listed n all r views) inside))
       (reported (at old read.channel) (counted_each n all r views counts counted read.channel (unit_inside r old views next read is inside)))
 
+  around_after : ((before : Option (List ℕ)) → incomplete_with before read.flags read.octets ≢ None) → IsIncompleteAround r views next
+  around_after begun =
+      let old = series_to n r views in
+      around_read r old views next read is (are_listed n all r views) inside (inr (begun (at old read.channel)))
+
 pub counts_read : (r : ReceptionParameters) (counts : List (Option UnitCount)) (views : List TcView) (next : TcView) (read : SegmentView) → IsReadNext r views next read → AreCounted r counts views → next.vc < 64
     → (new : List (Option UnitCount))
     → ((old after : List (Option (List ℕ))) → CountsEach old counts → IsPlaced old read.channel (incomplete_with (at old read.channel) read.flags read.octets) after → CountsEach after new)
@@ -162,3 +182,7 @@ pub packets_read : (r : ReceptionParameters) (counts : List (Option UnitCount)) 
     → (step : StepReport) → ForSeriesOf (count_at counts read.channel) (λ before. ReportsPackets (packets_with before read.flags read.octets) step)
     → ReportsPackets (ended_by r views next) step
 packets_read = packets_after channel_count refl
+
+pub around_read_counted : (r : ReceptionParameters) (counts : List (Option UnitCount)) (views : List TcView) (next : TcView) (read : SegmentView) → IsReadNext r views next read → AreCounted r counts views → next.vc < 64
+    → ((before : Option (List ℕ)) → incomplete_with before read.flags read.octets ≢ None) → IsIncompleteAround r views next
+around_read_counted = around_after channel_count refl

@@ -51,9 +51,10 @@ pub fn receiver_with(alloc: Global, starts: &Starts, plain: VcSet) -> Result<Rec
 }
 
 /// A counter with a window of 10, V(R) 0 and segment headers on each virtual channel.
-pub fn counter() -> Result<UnitCounter, Stop> {
+pub fn counter(alloc: Global) -> Result<UnitCounter, Stop> {
     let window = window(10)?;
-    Ok(UnitCounter::new(window, &Starts::all(0), VcSet::new()))
+    let starts = Starts::all(0);
+    Ok(UnitCounter::new(alloc, window, &starts, VcSet::new()))
 }
 
 /// FARM-1 of each virtual channel, with a window of 10 and this V(R).

@@ -99,7 +99,7 @@ fn is_counted(
     if *vc > 63 || *map > 63 {
         return Err(Stop::Absent);
     }
-    let step = counter.frame(&frame(&shape(1024, false)?, octets)?);
+    let step = counter.frame(&frame(&shape(1024, false)?, octets)?)?;
     let is_held = (counter.held(*vc, *map), counter.is_open(*vc, *map)) == *held;
     let open_from = counter.none_open_from();
     let is_told = step == step_of(receiver, octets, delivered)?;
@@ -107,7 +107,7 @@ fn is_counted(
 }
 
 fn is_series_counted(rt: &impl Abort, alloc: Global, frames: &[Frame]) -> Result<bool, Stop> {
-    let mut counter = counter()?;
+    let mut counter = counter(alloc)?;
     let mut receiver = receiver(alloc, 0)?;
     let mut delivered = none(alloc);
     for row in frames {

@@ -13,11 +13,6 @@ pub never_failed : {A : Type 0} (has_failed : Bool) (result : Result A FlowFault
     → (result ≡ Err flow.Failed → has_failed ≡ true) → has_failed ≡ false → fault ≢ flow.Failed
 never_failed has_failed result fault is left working e = absurd (let failed = left (is ∙ ap Err e) in cc)
 
--- a sink that refuses none leaves memory alone
-pub memory_alone : {S : Type 0} (taking : S → ℕ → List ℕ → S → Type 0) (failures : S → ℕ) (packets : List (List ℕ)) (old new : S) (channel : ℕ) (fault : FlowFault)
-    → IsStopped taking (λ old channel packet fault new. ⊥) failures old channel packets fault new → fault ≡ flow.Memory
-memory_alone taking failures packets old new channel fault stopped = grind arith
-
 -- ---- a store of packets
 
 module _ {S : Type 0} (taking : S → ℕ → List ℕ → S → Type 0) (failing : S → ℕ → List ℕ → SinkFault → S → Type 0) (failures : S → ℕ) where

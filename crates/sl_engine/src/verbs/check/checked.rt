@@ -10,7 +10,7 @@ use crate::kind::tm::TmFound;
 use crate::kind::{Counter, Followed};
 use crate::verbs::check::lines::{AnomalyPlace, event_lines};
 use crate::verbs::check::{lines_tc, lines_tm};
-use sl_tcflow::Receiver;
+use sl_tcflow::{Receiver, UnitCounter};
 use sl_tcframe::TcSkip;
 use sl_tmflow::{Extractor, PacketCounter};
 use sl_tmframe::TmSkip;
@@ -118,6 +118,21 @@ impl Checked for Receiver {
     }
 }
 
+impl Checked for UnitCounter {
+    ghost use Rattle.sl_packet.specs.Delivered.{channel_count};
+    ghost use Rattle.sl_engine.specs.Verbs.Check.Tc.{tc_anomaly_lines, tc_open};
+
+    ghost lines_of = { tc_anomaly_lines };
+
+    ghost open_at = { tc_open };
+
+    ghost channel_limit = { channel_count };
+
+    fn open_below(&self) -> u16 {
+        self.none_open_from()
+    }
+}
+
 impl AnomalyLines for PacketCounter {
     fn anomaly_lines(lines: &mut Lines, offset: u64, found: Result<TmFound, TmSkip>) -> u64 {
         lines_tm::tm_anomaly_lines(lines, offset, found)
@@ -135,7 +150,7 @@ impl AnomalyLines for PacketCounter {
     }
 }
 
-impl AnomalyLines for Receiver {
+impl AnomalyLines for UnitCounter {
     fn anomaly_lines(lines: &mut Lines, offset: u64, found: Result<TcFound, TcSkip>) -> u64 {
         lines_tc::tc_anomaly_lines(lines, offset, found)
     }

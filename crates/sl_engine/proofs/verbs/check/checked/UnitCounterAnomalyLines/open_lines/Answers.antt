@@ -5,7 +5,7 @@ use Rattle.sl_tcflow.specs.Reception.{segments_of}
 use Rattle.sl_engine.specs.Link.Managed.{reception_of, tc_format}
 use Rattle.sl_engine.specs.Verbs.Check.Checking.{AddsAnomalies}
 use Rattle.sl_engine.proofs.lemmas.Verbs.Check.FewTc.{open_is}
-use Rattle.sl_engine.proofs.verbs.check.checked.ReceiverAnomalyLines.open_lines.Goals as goal
+use Rattle.sl_engine.proofs.verbs.check.checked.UnitCounterAnomalyLines.open_lines.Goals as goal
 
 pub returns-clause-added : goal.returns-clause-added
 returns-clause-added c = λ p frames h.

@@ -66,14 +66,17 @@ const CASES: [Case; 8] = [
 ];
 
 // Whether an engine writes all; or memory was refused, and it wrote the beginning, and nothing of a
-// normal form. No other fault comes, and `show` and `check` take no memory.
-fn is_so(verb: Verb, ending: &Ending<Page>, whole: &[u8]) -> bool {
+// normal form. No other fault comes, and `show` takes no memory, nor does `check` of TM frames.
+fn is_so(kind: Kind, verb: Verb, ending: &Ending<Page>, whole: &[u8]) -> bool {
     let octets = ending.writer.octets.as_slice();
     if ending.outcome.is_ok() {
         return octets == whole;
     }
     ending.is_fault(LinkFault::Memory, (0, 0))
-        && matches!(verb, Verb::Packets | Verb::Normalise)
+        && matches!(
+            (kind, verb),
+            (Kind::Tc, Verb::Check) | (_, Verb::Packets | Verb::Normalise)
+        )
         && whole.starts_with(octets)
         && (verb != Verb::Normalise || octets.is_empty())
 }
@@ -89,7 +92,7 @@ fn may_be_refused(alloc: Global, case: &Case) -> Result<bool, Stop> {
             octets: ArrayVec::new(),
         },
     );
-    Ok(is_so(*verb, &ending, whole))
+    Ok(is_so(*kind, *verb, &ending, whole))
 }
 
 // What `TM` twice has, and an empty recording lacks.

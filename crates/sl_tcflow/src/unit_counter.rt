@@ -24,8 +24,8 @@ use std::marker::Model;
 
 /// Counts the packets that a [`Receiver`](crate::Receiver) delivers from the same frames, and
 /// reports the same anomalies. Of a service data unit that comes in parts the counter keeps no
-/// octets but those of a packet's header, so the memory is bounded: 24 octets for each of the 4,096
-/// channels at most, and while the list of them grows as many again and half.
+/// octets but those of a packet's header. Its list of counts, of 24 octets each, reaches up to the
+/// greatest channel on which a first segment has come, and has memory for twice as many at most.
 #[derive(Drop)]
 pub struct UnitCounter {
     // FARM-1 of each virtual channel.

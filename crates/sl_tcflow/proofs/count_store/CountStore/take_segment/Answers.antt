@@ -4,7 +4,6 @@ use Rattle.std.proofs.lemmas.Bool.{cases_lt}
 use Rattle.std.proofs.lemmas.List.{get_or_past, get_or_default}
 use Rattle.sl_packet.specs.Delivered.{channel_count}
 use Rattle.sl_tcflow.specs.CountStore.{CountsEach, count_at}
-use Rattle.sl_tcflow.specs.IncompleteSteps.{incomplete_with}
 use Rattle.sl_tcflow.specs.Segment.{SegmentView}
 use Rattle.sl_tcflow.specs.SeriesStore.{at}
 use Rattle.sl_tcflow.specs.UnitCount.{CountsSeries}
@@ -33,25 +32,25 @@ pub returns-clause-counts : goal.returns-clause-counts
 returns-clause-counts c old new each placed =
     let list = c.if-index-len.self-inside.list.items in
     let (same, below) : ((other : ℕ) → count_at list other ≡ count_at c.args.self.now other) × (c.from-index.result < length list) =
-        elim c.if-index-len.branch [
-          | then-index-len+else-segment-ne-FIRST+in_ok-resize w ↦ (
-              (λ other.
-                  ap (λ (i : Inside). count_at i.list.items other) w.self-inside-is
-                  ∙ same_grown c.self.inside.list.items w.resize.new.self.items (vec_len c.self.inside.list) (c.from-index.result + 1) (omega arith)
-                  (omega (arith, w.in_ok-resize.ensures.len)) (omega (arith, w.if-index-len.true, c.len.ensures))
-                  w.in_ok-resize.ensures.by_index.0 (λ k d. w.in_ok-resize.ensures.by_index.1 k d refl) other
-                  ∙ ap (λ counts. count_at counts other) c.self.view_is),
-              omega (arith, ap (λ (i : Inside). length i.list.items) w.self-inside-is, w.in_ok-resize.ensures.len),
-            )
-          | else-index-len w ↦ (
-              (λ other. ap (λ (i : Inside). count_at i.list.items other) w.self-inside-is ∙ ap (λ counts. count_at counts other) c.self.view_is),
-              omega (arith, ap (λ (i : Inside). length i.list.items) w.self-inside-is, w.if-index-len.false, c.len.ensures),
-            )
-        ]
+    elim c.if-index-len.branch [
+      | then-index-len+else-segment-ne-FIRST+in_ok-resize w ↦ (
+        (λ other.
+            ap (λ (i : Inside). count_at i.list.items other) w.self-inside-is
+            ∙ same_grown c.self.inside.list.items w.resize.new.self.items (vec_len c.self.inside.list) (c.from-index.result + 1) (omega arith)
+            (omega (arith, w.in_ok-resize.ensures.len)) (omega (arith, w.if-index-len.true, c.len.ensures))
+            w.in_ok-resize.ensures.by_index.0 (λ k d. w.in_ok-resize.ensures.by_index.1 k d refl) other
+            ∙ ap (λ counts. count_at counts other) c.self.view_is),
+        omega (arith, ap (λ (i : Inside). length i.list.items) w.self-inside-is, w.in_ok-resize.ensures.len),
+      )
+      | else-index-len w ↦ (
+        (λ other. ap (λ (i : Inside). count_at i.list.items other) w.self-inside-is ∙ ap (λ counts. count_at counts other) c.self.view_is),
+        omega (arith, ap (λ (i : Inside). length i.list.items) w.self-inside-is, w.if-index-len.false, c.len.ensures),
+      )
+    ]
     in
     let channel : c.from-index.result ≡ c.args.segment.now.channel = c.from-index.ensures ∙ ap (λ (s : SegmentView). s.channel) c.segment.view_is in
     let series : c.index_mut.result.now ≡ count_at c.args.self.now c.args.segment.now.channel =
-        c.index_mut.ensures.value ∙ get_or_default list c.from-index.result c.index_mut.result.now None below ∙ same c.from-index.result ∙ ap (count_at c.args.self.now) channel
+    c.index_mut.ensures.value ∙ get_or_default list c.from-index.result c.index_mut.result.now None below ∙ same c.from-index.result ∙ ap (count_at c.args.self.now) channel
     in
     let inside : c.args.segment.now.channel < channel_count = omega (arith, c.segment.invariant.channel, ap (λ (s : SegmentView). s.channel) c.segment.view_is) in
     let before = subst (CountsSeries (at old c.args.segment.now.channel)) (sym series) (each c.args.segment.now.channel inside) in

@@ -13,7 +13,7 @@ use Rattle.sl_tmflow.specs.Recording.{packets_of_channel}
 use Rattle.sl_tmflow.specs.StepReport.{StepReport}
 use Rattle.sl_tmflow.proofs.lemmas.Delivery.Channel.{other_seen, same_seen}
 use Rattle.sl_tmflow.proofs.lemmas.Delivery.Push.{delivered_push, ended_few}
-use Rattle.sl_engine.specs.Kind.Tm.{HasProcessedTm, IsIncompleteAtLastTm, TmFinding, as_read, ended_in, finding_of, found_after, tm_kind, vc_of}
+use Rattle.sl_engine.specs.Kind.Tm.{HasProcessedTm, IsIncompleteAtLastTm, as_read, ended_in, finding_of, found_after, tm_kind, vc_of}
 use Rattle.sl_engine.specs.Kind.Delivery.{AddsByChannel, with_frame}
 use Rattle.sl_engine.specs.Link.Managed.{Parameters, managed_of, tm_format}
 use Rattle.sl_engine.specs.Framing.Tm.{is_tm_frame}

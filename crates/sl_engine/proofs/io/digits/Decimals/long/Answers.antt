@@ -1,4 +1,4 @@
-use Rattle.std.proofs.Common.{◌≡◌, ◌∙◌, ◌++◌, ap, arith, sym, List, ℕ}
+use Rattle.std.proofs.Common.{arith}
 use Rattle.sl_engine.proofs.lemmas.Io.Digits.{decimal_of_long}
 use Rattle.sl_engine.proofs.io.digits.Decimals.long.Goals as goal
 

@@ -179,12 +179,13 @@ impl<'d> TmForm<'d> {
         ensures capacity { vec_capacity form.old ≤ vec_capacity form.new }
     {
         loop {
-            let wanted = usize::from(self.shape.room()) - self.tail.len();
+            let shape = self.shape;
+            let wanted = usize::from(shape.room()) - self.tail.len();
             if let Some(field) = next_field(self.packets, wanted) {
                 form.reserve(PIECE_ROOM)?;
                 let (frames, tail) = add_packets(
                     form,
-                    &self.shape,
+                    &shape,
                     self.heading,
                     self.tail,
                     &field,
@@ -197,7 +198,7 @@ impl<'d> TmForm<'d> {
                 let frames = add_last(
                     form,
                     &mut self.octets,
-                    &self.shape,
+                    &shape,
                     self.heading,
                     self.tail,
                     self.packets,
@@ -393,6 +394,7 @@ fn frame_header(heading: Heading, first: u16) -> [u8; 6]
 }
 
 // Adds the octets of packets.
+#[inline(always)]
 fn push_all(out: &mut Vec<u8>, packets: &[Vec<u8>]) -> Result<(), AllocError>
     ensures added { OnOk result (out.new.items
         ≡ out.old.items ++ concat (map vec_items packets.now)) }
@@ -531,6 +533,7 @@ fn fill_len(field_len: usize, len: usize) -> usize
 // Adds a frame for each data field that the octets fill, and leaves out the octets beyond these.
 // The first packet start is that of the first frame, and no packet starts in the other frames. The
 // first frame has this heading.
+#[inline(always)]
 fn push_fields(
     form: &mut Vec<u8>,
     shape: &TmShape,

@@ -51,8 +51,8 @@ pub struct TcForm<'d> {
 // this channel come before it; and the N(S) of its first frame.
 #[derive(Clone, Copy)]
 struct Place {
-    channel: u16,
     framed: usize,
+    channel: u16,
     ns: u8,
 }
 
@@ -159,16 +159,19 @@ impl<'d> TcForm<'d> {
             plain,
             ns: place.ns,
         };
-        let ns = push_piece(form, &self.shape, heading, packet)?;
-        let from = Place {
-            channel: place.channel,
-            framed: place.framed + 1,
-            ns,
-        };
-        if from.framed < self.packets.len() {
-            self.place = from;
+        let shape = self.shape;
+        let ns = push_piece(form, &shape, heading, packet)?;
+        let framed = place.framed + 1;
+        if framed < self.packets.len() {
+            self.place.framed = framed;
+            self.place.ns = ns;
             return Ok(true);
         }
+        let from = Place {
+            framed,
+            channel: place.channel,
+            ns,
+        };
         let place = next_place(self.delivered, &self.starts, from);
         self.place = place;
         self.packets = self.delivered.list(place.channel);

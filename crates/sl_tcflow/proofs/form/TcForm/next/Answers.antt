@@ -35,8 +35,8 @@ returns-in_err-ns-clause-pieces c =
     let some = c.push_piece.ensures.some in
     on_err c.from_residual.result _ (λ none. absurd (omega (arith, some, simp length-append at (ap length (sym front ∙ c.self.view_is ∙ none)))))
 
-pub returns-then-from-self-clause-piece : goal.returns-then-from-self-clause-piece
-returns-then-from-self-clause-piece c = λ some.
+pub returns-then-framed-self-clause-piece : goal.returns-then-framed-self-clause-piece
+returns-then-framed-self-clause-piece c = λ some.
     let f = c.self.inside in
     let i = c.self.invariant in
     let found = c.in-Some.ensures in

@@ -1,5 +1,8 @@
 //! The listings of recordings. A call has two buffers of 65,536 octets on its stack: for what is
 //! read, and for lines.
+//!
+//! Each listing is compiled as a function of its own. In one function with all the others its loop
+//! would have fewer registers.
 ghost use Rattle.std.specs.Prelude.{◌≡◌, ◌≢◌, IfOk, IfErr, OnOk, Err};
 ghost use Rattle.sl_tcframe.specs.TcDelimited.{tc_frames_of};
 ghost use Rattle.sl_tmframe.specs.TmDelimited.{tm_frames_of};
@@ -38,6 +41,7 @@ use std::io::{Read, Write};
 ///
 /// The fault is `Read` where the reader had one, `TooLong` where more octets came than the managed
 /// limit, and `Write` where the writer had one.
+#[inline(never)]
 pub fn show_tm<R: Read, W: Write>(
     managed: &Managed,
     reader: &mut Counted<R>,
@@ -71,6 +75,7 @@ pub fn show_tm<R: Read, W: Write>(
 ///
 /// The fault is `Read` where the reader had one, `TooLong` where more octets came than the managed
 /// limit, and `Write` where the writer had one.
+#[inline(never)]
 pub fn show_tc<R: Read, W: Write>(
     managed: &Managed,
     reader: &mut Counted<R>,
@@ -103,6 +108,7 @@ pub fn show_tc<R: Read, W: Write>(
 ///
 /// The fault is `Read` where the reader had one, `TooLong` where more octets came than the managed
 /// limit, and `Write` where the writer had one.
+#[inline(never)]
 pub fn check_tm<R: Read, W: Write>(
     alloc: Global,
     managed: &Managed,
@@ -142,6 +148,7 @@ pub fn check_tm<R: Read, W: Write>(
 /// octets came than the managed limit, and `Memory` where memory was refused. Memory is refused
 /// only where the unit of a frame is accepted and a series is incomplete on its MAP, before the
 /// frame or after it.
+#[inline(never)]
 pub fn check_tc<R: Read, W: Write>(
     alloc: Global,
     managed: &Managed,
@@ -180,6 +187,7 @@ pub fn check_tc<R: Read, W: Write>(
 /// octets came than the managed limit, and `Memory` where memory was refused. Memory is refused
 /// only where a packet is incomplete on the virtual channel of a frame, before the frame or after
 /// it.
+#[inline(never)]
 pub fn packets_tm<R: Read, W: Write>(
     alloc: Global,
     managed: &Managed,
@@ -219,6 +227,7 @@ pub fn packets_tm<R: Read, W: Write>(
 /// octets came than the managed limit, and `Memory` where memory was refused. Memory is refused
 /// only where the unit of a frame is accepted and a series is incomplete on its MAP, before the
 /// frame or after it.
+#[inline(never)]
 pub fn packets_tc<R: Read, W: Write>(
     alloc: Global,
     managed: &Managed,

@@ -32,16 +32,16 @@ def identification(name: str, file: int) -> Identification:
             bare = re.sub(r"\.(gz|bz2|xz|zst|zip)$", "", name)
             command = command.format(quoted(name), quoted(bare, ".octets" * (bare == name)))
             return Identification(what, commands=(command,)) if command else Identification(what, why=READS)
-    known = list(islice(right_frames(head), PAIRS))
-    layout = by_markers(head) or by_distance(head, control(head, known))
-    found = None if layout else cltus(recording, head) or tc(recording, known, head, True)
+    known, layout = list(islice(right_frames(head), PAIRS)), by_markers(head)
+    found = None if layout else cltus(recording, head)
+    layout = layout or (None if found else by_distance(head, control(head, known)))
+    found = found or (None if layout else tc(recording, known, head, True))
     for mask in b"", TM_SEQUENCE:
         layout = layout or (None if found else by_distance(head, headers(head, mask), mask))
     found = tm(recording, head, layout) if layout else found or tc(recording, known, head, False) or other(head)
     why = "there are no sync markers, start sequences, error control fields or headers that go on"
-    if recording.tried > TRIED:
-        found, why = None, f"stopped after {TRIED} places at which a frame might begin"
-    return found or Identification("unknown", why=why)
+    stopped = f"stopped after {TRIED} places at which a frame might begin" * (recording.tried > TRIED)
+    return found if found and not stopped else Identification("unknown", why=stopped or why)
 
 
 def other(head: bytes, distance: int = 0) -> Optional[Identification]:

@@ -153,7 +153,7 @@ def tm(recording: Recording, head: bytes, it: Layout) -> Identification:
     why = "less than half of it are such frames" * (2 * sum(map(len, pieces)) < recording.size - 2 * it.distance)
     lead, trail = 0, it.distance - it.length - len(MARKER) * it.marked
     begin, lead, trail = (0, begin, trail - begin) if begin <= trail else (begin, 0, trail)
-    options = f" --marker {MARKER.hex()}" * it.marked + f" --lead {lead}" * (lead > 0)
+    options = f" --marker {MARKER.hex()} --errors 3" * it.marked + f" --lead {lead}" * (lead > 0)
     options += f" --trail {trail}" * (trail > 0) + " --derandomise" * bool(it.mask)
     words = [["tm", "--scid", str(craft), "--tm-length", str(it.length), *["--tm-fecf"] * it.fecf] for craft in some]
     return frames_of(recording.name, what, lines, words, why, pieces, begin,
@@ -170,24 +170,39 @@ def cut(octets: bytes) -> Iterator[bytes]:
 
 def tc(recording: Recording, known: Sequence[Tuple[int, int]], head: bytes, fecf: bool) -> Optional[Identification]:
     """TC frames: with error control fields, by right ones; else by five lengths that lead on, or three to the end."""
-    octets = recording.read(0, WHOLE)
-    places = [at for at, length in known if stated(head, at, True) == length] if fecf else [
-        at for at in range(min(len(head), 1 << 16)) if (length := stated(head, at, True))
+    octets = recording.read(0, WHOLE) if recording.size <= WHOLE else head
+    some = [tc_craft(head, at) for at, length in known if stated(head, at, True) == length] if fecf else [
+        tc_craft(head, at) for at in range(min(len(head), 1 << 16)) if (length := stated(head, at, True))
         and stated(head, at + length, True) and tc_craft(head, at + length) == tc_craft(head, at)]
-    craft, number = Counter(tc_craft(head, at) for at in places).most_common(1)[0] if places else (0, 0)
-
-    def sound(octets: bytes, at: int) -> int:
-        length = stated(octets, at, True)
-        return length * (length > 0 and tc_craft(octets, at) == craft and (
-            not fecf or right_fields([octets[at:at + length]]) > 0))
-
-    pieces = walked(recording, octets, bytes(craft >> 8 | flags for flags in (0, 0x20, 0x30)), 1 if fecf else 5, sound,
-                    stated) if number > 2 - (not fecf) else []
-    frames = list(islice((it for piece in pieces for it in cut(octets[piece.start:piece.stop])), 20_000))
-    if len(frames) < 3 or 2 * sum(map(len, pieces)) <= len(octets) or tc_field(frames) is (not fecf):
+    own = [craft for craft, number in Counter(some).most_common(9) if number > max(1 + fecf, 0.05 * len(some))]
+    pieces = tc_pieces(recording, octets, own, fecf) if own else []
+    sure = sum(end - begin for begin, end, rows in pieces if fecf or rows > 4 or rows > 2 and end == len(octets))
+    frames = list(islice((it for begin, end, _ in pieces for it in cut(octets[begin:end])), 20_000))
+    if len(frames) < 3 or 2 * sure <= len(octets) or tc_field(frames) is (not fecf):
         return None
-    why = f"frames are looked at in the first {WHOLE} octets alone" * (recording.size > WHOLE)
-    return answer(recording.name, "TC transfer frames", [], frames, why, pieces)
+    why = f"of TC frames above {WHOLE} octets the first are looked at alone" * (recording.size > WHOLE)
+    return answer(recording.name, "TC transfer frames", [], frames, why, [range(*it[:2]) for it in pieces])
+
+
+def tc_pieces(recording: Recording, octets: bytes, own: Sequence[int], fecf: bool) -> List[List[int]]:
+    """Where pieces begin and end in which TC frames of these spacecraft lie, and how many are sound in each, and right,
+    if they have a field for that. A sound one to which no stated lengths lead begins a piece, so none is left out."""
+    heads = (bytes([flags | craft >> 8, craft & 255]) for craft in own for flags in (0, 0x20, 0x30))
+    sign = re.compile(b"|".join(map(re.escape, heads)))
+    found: List[List[int]] = []
+    at, on = 0, -1
+    while recording.tried <= TRIED and (place := sign.search(octets, at)):
+        begin, at = place.start(), place.start() + 1
+        if (length := stated(octets, begin, True)) and not (fecf and crc_hqx(octets[begin:begin + length], 0xFFFF)):
+            while found and on < begin and (step := stated(octets, on)):
+                on += step
+            if on != begin:
+                found.append([begin, begin, 0])
+            at = on = begin + length
+            found[-1][1:] = at, found[-1][2] + 1
+        else:
+            recording.tried += 1
+    return found
 
 
 def answer(name: str, what: str, lines: List[str], frames: Sequence[bytes], why: str = "",

@@ -14,10 +14,9 @@ from .._options import Options, options_of
 class Identification:
     """What a recording is. str() gives the lines of sllink-identify, without the recording's name.
 
-    `what` says it in some words, and `lines` say what was found. If that is plain, `commands` are command lines of a
-    shell that write its frames, if that is needed, and check them, for each spacecraft, or that unpack it; else `why`
-    says why there are none. Where the program reads it as it is, `words` are the kind and the options of its command
-    line, as in `tm --scid 1 --tm-length 1115`.
+    `what` says it in some words, and `lines` what was found. If that is plain, `commands` are a shell's command lines:
+    they write its frames, if need be, and check them, for each spacecraft, or unpack it; else `why` says why there are
+    none. Where the program reads it as it is, `words` are kind and options, as in `tm --scid 1 --tm-length 1115`.
     """
 
     what: str

@@ -7,9 +7,9 @@ from itertools import islice, takewhile
 from typing import Iterator, List, NamedTuple, Optional, Sequence, Tuple
 
 from . import Identification, frames_of, quoted
-from .signs import (APART, PAIRS, SHORTEST, TC_SEQUENCE, TM_SEQUENCE, TRIED, Recording, Seen, about, chained, control,
-                    craft_of, crafts, data_end, fitting, headers, right_fields, right_frames, risen, stated, tc_craft,
-                    tc_field, unmasked, walked)
+from .signs import (APART, PAIRS, SECONDS, SHORTEST, TC_SEQUENCE, TM_SEQUENCE, Late, Recording, Seen, about, chained,
+                    control, craft_of, crafts, data_end, fitting, headers, right_fields, right_frames, risen, stated,
+                    tc_craft, tc_field, unmasked)
 
 HEAD, BLOCK, WHOLE = 1 << 17, 1 << 20, 2 << 20            # octets of signs, TM frames, TC frames that are looked at
 MARKER, START, TAIL = b"\x1a\xcf\xfc\x1d", b"\xeb\x90", b"\xc5" * 7 + b"\x79"        # of 131.0-B and of 231.0-B
@@ -32,16 +32,19 @@ def identification(name: str, file: int) -> Identification:
             bare = re.sub(r"\.(gz|bz2|xz|zst|zip)$", "", name)
             command = command.format(quoted(name), quoted(bare, ".octets" * (bare == name)))
             return Identification(what, commands=(command,)) if command else Identification(what, why=READS)
-    known, layout = list(islice(right_frames(head), PAIRS)), by_markers(head)
-    found = None if layout else cltus(recording, head)
-    layout = layout or (None if found else by_distance(head, control(head, known)))
-    found = found or (None if layout else tc(recording, known, head, True))
-    for mask in b"", TM_SEQUENCE:
-        layout = layout or (None if found else by_distance(head, headers(head, mask), mask))
-    found = tm(recording, head, layout) if layout else found or tc(recording, known, head, False) or other(head)
     why = "there are no sync markers, start sequences, error control fields or headers that go on"
-    stopped = f"stopped after {TRIED} places at which a frame might begin" * (recording.tried > TRIED)
-    return found if found and not stopped else Identification("unknown", why=stopped or why)
+    try:
+        layout = by_markers(recording, head)
+        found = None if layout else cltus(recording, head)
+        known = [] if layout or found else list(islice(right_frames(head), PAIRS))
+        layout = layout or by_distance(recording, head, control(head, known))
+        found = None if layout else found or tc(recording, known, head, True)
+        for mask in b"", TM_SEQUENCE:
+            layout = layout or (None if found else by_distance(recording, head, headers(head, mask), mask))
+        found = tm(recording, head, layout) if layout else found or tc(recording, known, head, False) or other(head)
+    except Late:
+        found, why = None, f"stopped after {SECONDS} s of the processor's time"
+    return found or Identification("unknown", why=why)
 
 
 def other(head: bytes, distance: int = 0) -> Optional[Identification]:
@@ -68,7 +71,7 @@ class Layout(NamedTuple):
     fecf: bool = False
 
 
-def layout_of(head: bytes, places: Sequence[int], it: Layout) -> Optional[Layout]:
+def layout_of(recording: Recording, head: bytes, places: Sequence[int], it: Layout) -> Optional[Layout]:
     """The layout, with what frames at these places show: their length by the error control field, or else by their
     packets. None where that isn't sure, or they state their length, as space packets and TC frames do."""
     ends = ((at, at + it.distance - len(MARKER) * it.marked) for at in places)
@@ -76,22 +79,22 @@ def layout_of(head: bytes, places: Sequence[int], it: Layout) -> Optional[Layout
     length, some = fitting(units[:48]), crafts(units)
     own, fecf = [unit for unit in units if craft_of(unit) in some], length > 0
     if not fecf and len(own) >= max(5, 0.75 * len(units)) and risen(own) >= max(5, 0.3 * len(own)):
-        length = data_end(own[:500])
+        length = data_end(recording, own[:500])
     others = sum(length in (7 + (unit[4] << 8 | unit[5]), stated(unit, 0, True)) for unit in units)
     return it._replace(length=length, some=some, fecf=fecf) if length and some and 2 * others < len(units) else None
 
 
-def by_markers(head: bytes) -> Optional[Layout]:
+def by_markers(recording: Recording, head: bytes) -> Optional[Layout]:
     """By sync markers at one distance, and frames behind them."""
     places = [it.end() for it in islice(re.finditer(re.escape(MARKER), head), PAIRS)]
     for distance, number in Counter(there - here for here, there in zip(places, places[1:])).most_common(1):
         if number >= max(2, len(places) // 4) and distance >= SHORTEST + len(MARKER):
             some = [Layout(places[0], distance, True, mask) for mask in (b"", TM_SEQUENCE)]
-            return layout_of(head, places, some[0]) or layout_of(head, places, some[1]) or some[0]
+            return next(filter(None, (layout_of(recording, head, places, it) for it in some)), some[0])
     return None
 
 
-def by_distance(head: bytes, seen: Seen, mask: bytes = b"") -> Optional[Layout]:
+def by_distance(recording: Recording, head: bytes, seen: Seen, mask: bytes = b"") -> Optional[Layout]:
     """By the distances, and the places in these, at which frames seem to lie."""
     found = []
     for distance, phase in sorted((it for it in seen if seen[it] > 1), key=lambda it: -seen[it] * it[0])[:8]:
@@ -99,29 +102,35 @@ def by_distance(head: bytes, seen: Seen, mask: bytes = b"") -> Optional[Layout]:
         some = crafts([*rows.values()])
         own = [at for at in rows if craft_of(rows[at]) in some]
         if len(own) > 2:
-            found.append(layout_of(head, range(own[0], own[-1] + 1, distance), Layout(own[0], distance, False, mask)))
+            layout = Layout(own[0], distance, mask=mask)
+            found.append(layout_of(recording, head, range(own[0], own[-1] + 1, distance), layout))
     return max(filter(None, found), key=lambda it: it.fecf, default=None)
 
 
 def pieces_of(recording: Recording, it: Layout) -> List[range]:
     """The pieces in which frames lie, by error control fields, or else by headers; in a large recording, at places."""
-    mask = it.mask or bytes(5)
+    mask, length, fecf, apart = it.mask or bytes(5), it.length, it.fecf, it.distance
     own = {craft ^ craft_of(mask) for craft in it.some}   # as they stand
-    right = crc_hqx(it.mask[:it.length], 0)               # the register, with what the mask adds to it
+    right = crc_hqx(it.mask[:length], 0)                  # the register, with what the mask adds to it
 
-    def sound(octets: bytes, at: int) -> int:
-        frame, before = octets[at:at + it.length], max(0, at - it.distance)
-        return it.length * (len(frame) == it.length and craft_of(frame) in own and (
-            crc_hqx(frame, 0xFFFF) == right if it.fecf else
-            (frame[4] ^ mask[4]) & 0x58 >= 0x18 and (not at or frame[:4] != octets[before:before + 4])))
+    def sound(octets: bytes, at: int) -> bool:
+        frame = octets[at:at + length]
+        return len(frame) == length and craft_of(frame) in own and (crc_hqx(frame, 0xFFFF) == right if fecf else (
+            frame[4] ^ mask[4]) & 0x58 >= 0x18 and not (at and octets.startswith(frame[:4], max(0, at - apart))))
 
+    sign = re.compile(b"[%s]" % re.escape(bytes({craft >> 4 for craft in own})))
     found: List[range] = []
-    for at in range(0, recording.size, max(BLOCK, recording.size // 8)):
-        at += (found[-1].start - at) % it.distance if found else 0
-        for piece in walked(recording, recording.read(at, BLOCK), bytes({craft >> 4 for craft in own}),
-                            1 if it.fecf else 3, sound, lambda octets, at: it.distance):
-            goes_on = found and (at + piece.start - found[-1].start) % it.distance == 0
-            found.append(range(found.pop().start if goes_on else at + piece.start, at + piece.stop))
+    for block in range(0, recording.size, max(BLOCK, recording.size // 8)):
+        octets, at = recording.read(block, BLOCK), 0
+        while place := sign.search(octets, at):
+            recording.look_at_clock()
+            on, at = place.start(), place.start() + 1
+            goes_on = found and (block + on - found[-1].start) % apart == 0
+            if all(sound(octets, on + row * apart) for row in range(1 if fecf or goes_on else 3)):
+                begin = found.pop().start if goes_on else block + on
+                while sound(octets, on):
+                    on, at = on + apart, on + length
+                found.append(range(begin, block + at))
     begin, end = (found[0].start, found.pop(0).stop) if found else (it.at, it.at)
     while begin >= it.distance and craft_of(unmasked(recording.read(begin - it.distance, 2), it.mask)) in it.some:
         begin -= it.distance                              # frames with bit errors
@@ -191,7 +200,8 @@ def tc_pieces(recording: Recording, octets: bytes, own: Sequence[int], fecf: boo
     sign = re.compile(b"|".join(map(re.escape, heads)))
     found: List[List[int]] = []
     at, on = 0, -1
-    while recording.tried <= TRIED and (place := sign.search(octets, at)):
+    while place := sign.search(octets, at):
+        recording.look_at_clock()
         begin, at = place.start(), place.start() + 1
         if (length := stated(octets, begin, True)) and not (fecf and crc_hqx(octets[begin:begin + length], 0xFFFF)):
             while found and on < begin and (step := stated(octets, on)):
@@ -200,8 +210,6 @@ def tc_pieces(recording: Recording, octets: bytes, own: Sequence[int], fecf: boo
                 found.append([begin, begin, 0])
             at = on = begin + length
             found[-1][1:] = at, found[-1][2] + 1
-        else:
-            recording.tried += 1
     return found
 
 
@@ -234,6 +242,7 @@ def cltus(recording: Recording, head: bytes) -> Optional[Identification]:
     units: List[bytes] = []
     end = covered = 0
     for place in re.finditer(re.escape(START), head):
+        recording.look_at_clock()
         at = place.end()
         while at > end and head[at:at + 8] != TAIL and is_block(head[at:at + 8]):
             at += 8

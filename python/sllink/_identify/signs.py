@@ -1,58 +1,34 @@
 """What octets show of frames: error control fields, counts that rise, packets that go on, lengths of TC frames."""
 
 import os
-import re
-from array import array
 from binascii import crc_hqx
 from collections import Counter as counter
 from itertools import accumulate
 from operator import xor
+from time import thread_time
 from typing import Callable, Counter, Dict, Iterator, List, Optional, Sequence, Tuple
 
 SHORTEST, LONGEST, APART = 32, 2048, 2560                 # octets of a TM frame; from one to the next, at most
-HEADERS, PAIRS, NEAR, TRIED = 1 << 16, 100_000, 8, 200_000         # octets; pairs; places that agree; that are tried
+HEADERS, PAIRS, NEAR, SECONDS = 1 << 16, 40_000, 8, 1.2            # octets; pairs; places that agree; of the processor
 Seen = Counter[Tuple[int, int]]                           # how often frames seem to lie at a distance, at a place in it
 
 
+class Late(Exception):
+    """A recording takes more than SECONDS."""
+
+
 class Recording:
-    """A file of which parts are read, as far as it has them. It counts the places that are tried."""
+    """A file of which parts are read, as far as it has them, and a clock."""
 
     def __init__(self, name: str, file: int) -> None:
-        self.name, self.size, self.tried, self._file = name, os.fstat(file).st_size, 0, file
+        self.name, self.size, self._file, self._begun = name, os.fstat(file).st_size, file, thread_time()
+
+    def look_at_clock(self) -> None:
+        if thread_time() - self._begun > SECONDS:
+            raise Late
 
     def read(self, offset: int, length: int) -> bytes:
         return os.pread(self._file, length, offset)
-
-
-def walked(recording: Recording, octets: bytes, firsts: bytes, number: int, sound: Callable[[bytes, int], int],
-           step: Callable[[bytes, int], int]) -> List[range]:
-    """The pieces in which frames lie one after another. A frame begins with one of `firsts`; `sound` gives its length,
-    0 where none is, and `step` how far the next one is, 0 if nothing says so. So many, or three that reach the end,
-    begin a piece. Where none is sound, but steps lead to one, and no piece begins before it, nothing is astray."""
-    def search(at: int, end: int) -> Optional[int]:
-        for place in re.compile(b"[%s]" % re.escape(firsts)).finditer(octets, at, end):
-            recording.tried += 1
-            if recording.tried > TRIED:
-                break
-            led, on = 0, place.start()
-            while led < number and sound(octets, on):
-                led, on = led + 1, on + step(octets, on)
-            if led == number or led > 2 and on >= len(octets):
-                return place.start()
-        return None
-
-    found: List[range] = []
-    last, on = -1, len(octets)
-    while (at := search(last + 1, on)) is not None or on < len(octets):
-        if at is not None:
-            found.append(range(at, at))
-            on = at
-        while length := sound(octets, on):
-            found[-1] = range(found[-1].start, on + length)
-            last, on = on, on + step(octets, on)
-        while on < len(octets) and not sound(octets, on):
-            on += step(octets, on) or len(octets)
-    return found
 
 
 def sequence(*taps: int) -> bytes:
@@ -76,7 +52,7 @@ def right_frames(octets: bytes) -> Iterator[Tuple[int, int]]:
     octets so far, the frame from a to b is right where R(a), with ones added, is R(b) after b - a octets of 0. So a
     place has one key as a beginning and one as an end, and right frames are equal keys."""
     begun: Dict[int, List[int]] = {}
-    ages = array("l", [0]) * 65536                        # how many octets of 0 lead to a register, from 1 or 3 on
+    ages = [0] * 65536                                    # how many octets of 0 lead to a register, from 1 or 3 on
     for register in 1, 3:
         for age in range(32767):
             ages[register], register = age, crc_hqx(b"\0", register)
@@ -97,11 +73,12 @@ def right_fields(frames: Sequence[bytes]) -> int:
 
 def fitting(units: Sequence[bytes]) -> int:
     """The length at which most of these units have a right field, or 0; the least, as zeros behind leave it right."""
-    right = counter(at for unit in units for at, register in enumerate(accumulate(
+    ends = {at for unit in units[:12] for at, register in enumerate(accumulate(
         unit[:LONGEST], lambda register, octet: crc_hqx(bytes([octet]), register), initial=0xFFFF))
-        if not register and at >= SHORTEST)
-    length, number = max(right.items(), key=lambda it: (it[1], -it[0]), default=(0, 0))
-    return length if number >= max(2, len(units) // 2) else 0
+        if not register and at >= SHORTEST}
+    right = ((right_fields([unit[:at] for unit in units if len(unit) >= at]), -at) for at in ends)
+    number, length = max(right, default=(0, 0))
+    return -length if number >= max(2, len(units) // 2) else 0
 
 
 def about(frames: Sequence[bytes], whose: Callable[[bytes], int], main: Sequence[int], fecf: Optional[bool],
@@ -162,7 +139,7 @@ def headers(octets: bytes, mask: bytes) -> Seen:
     return found
 
 
-def data_end(units: Sequence[bytes]) -> int:
+def data_end(recording: Recording, units: Sequence[bytes]) -> int:
     """The most octets at the front of these units at which packets go on from frame to frame, else 0."""
     runs: List[List[bytes]] = []                          # from a frame in which a packet begins to the next one
     begun: Dict[int, List[bytes]] = {}
@@ -173,6 +150,7 @@ def data_end(units: Sequence[bytes]) -> int:
         runs += [[*run, unit]] * (goes_on and pointer < 2046)
         begun[channel] = [unit] if pointer < 2046 else [*run, unit] * goes_on
     for end in range(min(map(len, units), default=0), SHORTEST - 1, -1) if len(runs) > 3 else ():
+        recording.look_at_clock()
         if sum(joined(run, end) for run in runs[:4]) > 1 and sum(joined(it, end) for it in runs) >= 0.6 * len(runs):
             return end
     return 0
@@ -193,8 +171,7 @@ def chained(octets: bytes) -> bool:
 
 
 def stated(octets: bytes, at: int, strict: bool = False) -> int:
-    """The length that a TC frame here states, 0 where it isn't whole, or has not, if that is asked, a frame's version,
-    spare bits and flags."""
+    """The length that a TC frame here states, 0 where it isn't whole or, if strict, has other flags, version, spare."""
     length = ((octets[at + 2] & 3) << 8 | octets[at + 3]) + 1 if at + 5 <= len(octets) else 0
     odd = strict and length > 0 and (length == 5 or octets[at] & 0xCC > 0 or octets[at] & 0x30 == 0x10)
     return 0 if odd or not 5 <= length <= len(octets) - at else length

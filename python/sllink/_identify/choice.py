@@ -183,7 +183,7 @@ def tc(recording: Recording, known: Sequence[Tuple[int, int]], head: bytes, fecf
     some = [tc_craft(head, at) for at, length in known if stated(head, at, True) == length] if fecf else [
         tc_craft(head, at) for at in range(min(len(head), 1 << 16)) if (length := stated(head, at, True))
         and stated(head, at + length, True) and tc_craft(head, at + length) == tc_craft(head, at)]
-    own = [craft for craft, number in Counter(some).most_common(9) if number > max(1 + fecf, 0.05 * len(some))]
+    own = [craft for craft, number in Counter(some).most_common(1) if number > 1 + fecf]
     pieces = tc_pieces(recording, octets, own, fecf) if own else []
     sure = sum(end - begin for begin, end, rows in pieces if fecf or rows > 4 or rows > 2 and end == len(octets))
     frames = list(islice((it for begin, end, _ in pieces for it in cut(octets[begin:end])), 20_000))
@@ -194,22 +194,22 @@ def tc(recording: Recording, known: Sequence[Tuple[int, int]], head: bytes, fecf
 
 
 def tc_pieces(recording: Recording, octets: bytes, own: Sequence[int], fecf: bool) -> List[List[int]]:
-    """Where pieces begin and end in which TC frames of these spacecraft lie, and how many are sound in each, and right,
-    if they have a field for that. A sound one to which no stated lengths lead begins a piece, so none is left out."""
-    heads = (bytes([flags | craft >> 8, craft & 255]) for craft in own for flags in (0, 0x20, 0x30))
-    sign = re.compile(b"|".join(map(re.escape, heads)))
+    """Where pieces of these spacecraft's TC frames begin and end, and how many are sound, and right if asked, in each.
+    One to which no lengths lead begins a piece, also within another, if it goes on to a third: none is left out."""
+    sign = re.compile(b"|".join(re.escape(bytes([flags | it >> 8, it & 255])) for it in own for flags in (0, 32, 48)))
     found: List[List[int]] = []
     at, on = 0, -1
     while place := sign.search(octets, at):
         recording.look_at_clock()
         begin, at = place.start(), place.start() + 1
-        if (length := stated(octets, begin, True)) and not (fecf and crc_hqx(octets[begin:begin + length], 0xFFFF)):
+        end = begin + stated(octets, begin, True)
+        apart = begin >= on or end in (on, len(octets)) or sign.match(octets, end)
+        if end > begin and apart and not (fecf and crc_hqx(octets[begin:end], 0xFFFF)):
             while found and on < begin and (step := stated(octets, on)):
                 on += step
-            if on != begin:
-                found.append([begin, begin, 0])
-            at = on = begin + length
-            found[-1][1:] = at, found[-1][2] + 1
+            found += [[begin, begin, 0]] * (on != begin)
+            on = found[-1][1] = end
+            found[-1][2] += 1
     return found
 
 

@@ -183,13 +183,7 @@ impl<'d> TmForm<'d> {
             let wanted = usize::from(shape.room()) - self.tail.len();
             if let Some(field) = next_field(self.packets, wanted) {
                 form.reserve(PIECE_ROOM)?;
-                let (frames, tail) = add_packets(
-                    form,
-                    &shape,
-                    self.heading,
-                    self.tail,
-                    &field,
-                )?;
+                let (frames, tail) = add_packets(form, &shape, self.heading, self.tail, &field)?;
                 self.heading = self.heading.after(frames);
                 self.packets = field.later;
                 self.tail = tail;

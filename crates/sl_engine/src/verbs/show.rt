@@ -52,8 +52,8 @@ impl<S: Shown> Verb for Show<S> {
 
     fn frame<W: Write>(&mut self, managed: &Managed, frame: &[u8], out: &mut Output<W>) -> Written {
         out.make_room()?;
-        let octets = self.so_far.octets();
-        let is_skipped = self.shown.show(managed, octets, frame, &mut out.lines);
+        out.lines.push_offset(self.so_far.octets());
+        let is_skipped = self.shown.show(managed, frame, &mut out.lines);
         let report = FrameReport {
             is_skipped,
             packets: 0,

@@ -12,11 +12,8 @@ pub fn header_text(header: &SegmentHeader) -> ([u8; 32], usize)
         ≡ segment_header_text header.now.flags header.now.map }
     ensures short { result.1 ≤ 31 }
 {
-    let octet = usize::from(header_octet(header));
-    let places = TEXTS[octet];
-    // From the table, since the compiler would else copy this octet apart from the others.
-    let many = TEXTS[octet][31];
-    (places, usize::from(many))
+    let places = TEXTS[usize::from(header_octet(header))];
+    (places, usize::from(places[31]))
 }
 
 // The octet of a header.

@@ -1,7 +1,7 @@
 //! How a frame of a kind, TM or TC, is shown.
-ghost use Rattle.std.specs.Prelude.{◌≡◌, ◌<◌, ◌++◌, ◌∷◌, [], ℕ, Bool, List, length};
+ghost use Rattle.std.specs.Prelude.{◌≡◌, ◌+◌, ◌<◌, ◌++◌, ◌∷◌, [], ℕ, Bool, List, decimal, length};
 ghost use Rattle.std.specs.List.{concat};
-ghost use Rattle.sl_engine.specs.Io.Lines.{HasRoomFor, line_width};
+ghost use Rattle.sl_engine.specs.Io.Lines.{HasRoomFor, text_width};
 
 use crate::framing::Framer;
 use crate::io::lines::Lines;
@@ -32,17 +32,20 @@ pub trait Shown: Drop {
     fn begin(managed: &Managed) -> Self
         ensures { has_shown result managed.now [] };
 
-    /// Adds the line of the next frame to the lines. Answers whether the frame is skipped.
-    fn show(&mut self, managed: &Managed, offset: u64, frame: &[u8], lines: &mut Lines) -> bool
+    /// Adds the line of the next frame to the lines, which end with its offset already. Answers
+    /// whether the frame is skipped.
+    fn show(&mut self, managed: &Managed, frame: &[u8], lines: &mut Lines) -> bool
         requires before { (before : List (List ℕ)) × has_shown self.old managed.now before
             × Self.Framer.is_frame managed.now frame.now }
-        requires room { HasRoomFor line_width lines.old }
+        requires room { HasRoomFor (text_width + 1) lines.old }
         ensures skipped { result ≡ is_skipped managed.now frame.now }
         // Not about what this call does: no frame is empty, as the totals want.
         ensures some { 0 < length frame.now }
-        ensures line { (before : List (List ℕ)) → has_shown self.old managed.now before
-            → offset ≡ length (concat before)
-            → lines.new ≡ lines.old ++ line managed.now before frame.now }
+        // The lines were some others, `start`, and the offset. Now they are `start` and the line.
+        ensures line { (before : List (List ℕ)) (start : List ℕ)
+            → has_shown self.old managed.now before
+            → lines.old ≡ start ++ decimal (length (concat before))
+            → lines.new ≡ start ++ line managed.now before frame.now }
         ensures shown { (before : List (List ℕ)) → has_shown self.old managed.now before
             → has_shown self.new managed.now (before ++ frame.now ∷ []) };
 }
@@ -67,9 +70,8 @@ impl Shown for TmFrames {
         TmFrames
     }
 
-    fn show(&mut self, managed: &Managed, offset: u64, frame: &[u8], lines: &mut Lines) -> bool {
+    fn show(&mut self, managed: &Managed, frame: &[u8], lines: &mut Lines) -> bool {
         let read = TmFrame::read(&managed.tm, managed.spacecraft, frame);
-        lines.push_offset(offset);
         tm_frame_line(lines, &read);
         read.is_err()
     }
@@ -94,9 +96,8 @@ impl Shown for Farms {
         Farms::new(managed.window, &managed.starts)
     }
 
-    fn show(&mut self, managed: &Managed, offset: u64, frame: &[u8], lines: &mut Lines) -> bool {
+    fn show(&mut self, managed: &Managed, frame: &[u8], lines: &mut Lines) -> bool {
         let read = TcFrame::read(&managed.tc, managed.spacecraft, frame);
-        lines.push_offset(offset);
         tc_frame_line(lines, &managed.plain, self, &read);
         read.is_err()
     }

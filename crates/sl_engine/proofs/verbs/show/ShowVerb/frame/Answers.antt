@@ -10,7 +10,7 @@ returns-in_err-make_room-clause-fault g c =
 
 pub returns-clause-lines : goal.returns-clause-lines
 returns-clause-lines g c = λ before h.
-    adds_both c.in_ok-make_room.ensures.kept (adds_lines _ _ _ _ refl (c.show-is_skipped.ensures.line before h.shown (rw (c.octets-octets.ensures, h.counts) refl)))
+    adds_both c.in_ok-make_room.ensures.kept (adds_lines _ _ _ _ refl (c.show-is_skipped.ensures.line before _ h.shown (rw h.counts at (rw c.octets.ensures at c.push_offset.ensures.text))))
 
 pub returns-clause-has_listed : goal.returns-clause-has_listed
 returns-clause-has_listed g c = λ before h. record {

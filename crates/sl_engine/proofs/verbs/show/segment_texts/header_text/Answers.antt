@@ -7,10 +7,10 @@ pub returns-clause-text : goal.returns-clause-text
 returns-clause-text c =
     let h = c.args.header.now in
     let octet = c.header_octet.ensures in
-    ap (λ (n : ℕ). take n (get_or TEXTS c.from-octet.result [])) c.from.ensures
-    ∙ header_at c.from-octet.result h.flags h.map (c.from-octet.ensures ∙ octet.octet) octet.flags octet.map
+    ap (λ (n : ℕ). take n (get_or TEXTS c.from.result [])) c.from-2.ensures
+    ∙ header_at c.from.result h.flags h.map (c.from.ensures ∙ octet.octet) octet.flags octet.map
 
 pub returns-clause-short : goal.returns-clause-short
 returns-clause-short c =
-    let below = header_short c.from-octet.result (omega arith) in
-    omega (arith, below, c.from.ensures)
+    let below = header_short c.from.result (omega arith) in
+    omega (arith, below, c.from-2.ensures)

@@ -10,12 +10,12 @@ use Rattle.sl_engine.proofs.lemmas.Kind.Delivery.{views_next}
 use Rattle.sl_engine.proofs.verbs.show.shown.FarmsShown.show.Goals as goal
 
 pub returns-clause-line : goal.returns-clause-line
-returns-clause-line c = λ before h offset.
+returns-clause-line c = λ before start h offset.
     let p = c.args.managed.now in
     let read : c.read-read.result ≡ tc_frame (tc_format p) p.spacecraft c.args.frame.now = search rules in
-    line_after c.args.lines.now _ (length (concat before)) (rw offset at c.push_offset.ensures.text)
+    line_after start _ (length (concat before)) offset
     (rw read at (c.tc_frame_line.ensures.line (reception_of p) (views_of (tc_format p) p.spacecraft before) h
-    ∙ ap (λ (q : Parameters). c.push_offset.new.self ++ (tc_frame_text q.plain (farm_before p before) c.read-read.result ++ codes "\n")) c.managed.view_is))
+    ∙ ap (λ (q : Parameters). c.args.lines.now ++ (tc_frame_text q.plain (farm_before p before) c.read-read.result ++ codes "\n")) c.managed.view_is))
 
 pub returns-clause-shown : goal.returns-clause-shown
 returns-clause-shown c = λ before h.

@@ -1,8 +1,10 @@
-use Rattle.std.proofs.Common.{◌≡◌, ◌++◌, ◌∷◌, ◌∙◌, [], ap}
+use Rattle.std.proofs.Common.{◌≡◌, ◌++◌, ◌∷◌, ◌∙◌, [], ap, append_assoc, codes}
+use Rattle.hex.specs.Hex.{encode_lower}
 use Rattle.sl_cop.specs.FarmClcw.{clcw_of}
 use Rattle.sl_fields.specs.Clcw.{clcw_octets}
 use Rattle.sl_tcflow.specs.Farms.{farm_of}
 use Rattle.sl_tcflow.proofs.lemmas.Reception.Farm.{farm_next}
+use Rattle.sl_engine.specs.Io.Words.{verdict_word}
 use Rattle.sl_engine.proofs.verbs.show.lines_tc.push_step.Goals as goal
 
 pub returns-clause-text : goal.returns-clause-text

@@ -1,6 +1,6 @@
 //! What is chosen where the counts don't tell an order.
 use crate::fate::Fate;
-use crate::order::marks::{step, width};
+use crate::order::marks::step;
 use crate::order::numbers::{Both, order_by_bracket, order_by_position};
 use crate::order::stretch::{Known, Stretch};
 use crate::order::taken::{Left, push_times};
@@ -143,7 +143,7 @@ impl Run {
 fn leave_out(stretch: &Stretch<'_>, order: &mut Vec<Fate>) -> Result<Choice, AllocError> {
     let (firsts, seconds) = (stretch.firsts.len(), stretch.seconds.len());
     order.clear();
-    if has_first_more(stretch) {
+    if stretch.has_first_more() {
         push_times(order, Fate::First, firsts)?;
         push_times(order, Fate::SecondLeftOut, seconds)?;
     } else {
@@ -151,18 +151,4 @@ fn leave_out(stretch: &Stretch<'_>, order: &mut Vec<Fate>) -> Result<Choice, All
         push_times(order, Fate::FirstLeftOut, firsts)?;
     }
     Ok(Choice::Frames)
-}
-
-// Whether the first recording has more frames, or as many that lost fewer.
-fn has_first_more(stretch: &Stretch<'_>) -> bool {
-    let (firsts, seconds) = (stretch.firsts.len(), stretch.seconds.len());
-    if firsts != seconds {
-        return firsts > seconds;
-    }
-    match (stretch.ends.left, stretch.ends.right) {
-        (Some(left), Some(right)) => {
-            width(stretch.firsts, left, right) <= width(stretch.seconds, left, right)
-        }
-        _ => true,
-    }
 }

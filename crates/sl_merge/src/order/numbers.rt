@@ -1,6 +1,6 @@
 //! The order of frames by their numbers.
 use crate::fate::Fate;
-use crate::order::marks::{Mark, Numbered};
+use crate::order::marks::{Mark, Numbered, step};
 use crate::order::recording::{Recording, are_near};
 use crate::order::stretch::Stretch;
 use crate::order::taken::Left;
@@ -92,9 +92,33 @@ fn fate_of_same(both: &Both<'_>, one: &Mark, other: &Mark) -> Option<(Fate, u32)
         return Some((Fate::Both, one.bracket));
     }
     if both.are_copies(one.place, other.place) {
-        return Some((Fate::SecondLeftOut, other.bracket));
+        return Some((fate_of_copies(both, one.place, other.place), one.bracket));
     }
     None
+}
+
+// The fate of two copies of one frame: the one stands whose header looks less damaged, or else the
+// first.
+fn fate_of_copies(both: &Both<'_>, first: u32, second: u32) -> Fate {
+    if damage(&both.other, second) < damage(&both.one, first) {
+        Fate::FirstLeftOut
+    } else {
+        Fate::SecondLeftOut
+    }
+}
+
+// How much of the header of a frame looks damaged: its master channel frame count, where it isn't
+// between those of the frames around it, and its data field status.
+fn damage(recording: &Recording<'_>, place: u32) -> u8 {
+    let before = place
+        .checked_sub(1)
+        .and_then(|before| recording.master(before));
+    let after = recording.master(place.saturating_add(1));
+    let is_between = match (before, recording.master(place), after) {
+        (Some(before), Some(count), Some(after)) => step(before, count) <= step(before, after),
+        _ => true,
+    };
+    u8::from(!is_between).saturating_add(u8::from(!recording.has_status(place)))
 }
 
 /// Puts the frames of a stretch in the order of their positions, into `fates`.
@@ -104,13 +128,14 @@ pub fn order_by_position(
     fates: &mut Vec<Fate>,
 ) -> Result<(), AllocError> {
     fates.clear();
+    let keeps_first = stretch.has_first_more();
     let mut left = Left::of(stretch);
     for _ in 0..u64::MAX {
         let fate = match (left.firsts.first(), left.seconds.first()) {
             (None, None) => break,
             (Some(_), None) => Fate::First,
             (None, Some(_)) => Fate::Second,
-            (Some(one), Some(other)) => fate_by_position(both, one, other),
+            (Some(one), Some(other)) => fate_by_position(both, one, other, keeps_first),
         };
         fates.push(fate)?;
         left.take(fate);
@@ -142,8 +167,9 @@ pub fn order_by_bracket(
     Ok(())
 }
 
-// The fate of the sooner one of two frames, by their positions, or of both.
-fn fate_by_position(both: &Both<'_>, one: &Mark, other: &Mark) -> Fate {
+// The fate of the sooner one of two frames, by their positions, or of both. Of two copies whose
+// counts differ the first one stands if `keeps_first` is set.
+fn fate_by_position(both: &Both<'_>, one: &Mark, other: &Mark, keeps_first: bool) -> Fate {
     let first = (one.bracket, one.position);
     let second = (other.bracket, other.position);
     if second < first {
@@ -152,9 +178,13 @@ fn fate_by_position(both: &Both<'_>, one: &Mark, other: &Mark) -> Fate {
         Fate::First
     } else if both.are_same(one.place, other.place) {
         Fate::Both
-    } else if both.are_copies(one.place, other.place) {
+    } else if !both.are_copies(one.place, other.place) {
+        Fate::First
+    } else if one.count == other.count {
+        fate_of_copies(both, one.place, other.place)
+    } else if keeps_first {
         Fate::SecondLeftOut
     } else {
-        Fate::First
+        Fate::FirstLeftOut
     }
 }

@@ -57,6 +57,23 @@ impl<'a> Recording<'a> {
         }
     }
 
+    /// The master channel frame count of the frame at a place, if there is one.
+    pub fn master(&self, place: u32) -> Option<u8> {
+        self.frame(place).get(2).copied()
+    }
+
+    /// Whether the data field status of the frame at a place is right, if packets are in it: its
+    /// flags are those of packets, and its pointer names an octet of the data field, or none.
+    pub fn has_status(&self, place: u32) -> bool {
+        match self.payload(place).octets {
+            [status, pointer, field @ ..] if *status / 64 % 2 == 0 => {
+                let first = u16::from_be_bytes([*status % 8, *pointer]);
+                *status / 8 % 8 == 3 && (usize::from(first) < field.len() || first >= 2046)
+            }
+            _ => true,
+        }
+    }
+
     /// Whether the frame at a place has only idle data.
     pub fn is_idle(&self, place: u32) -> bool {
         match self.frame(place) {

@@ -25,6 +25,20 @@ impl Stretch<'_> {
         self.ends.left.is_none() || self.ends.right.is_none()
     }
 
+    /// Whether the first recording has more frames, or as many that lost fewer.
+    pub fn has_first_more(&self) -> bool {
+        let (firsts, seconds) = (self.firsts.len(), self.seconds.len());
+        if firsts != seconds {
+            return firsts > seconds;
+        }
+        match (self.ends.left, self.ends.right) {
+            (Some(left), Some(right)) => {
+                width(self.firsts, left, right) <= width(self.seconds, left, right)
+            }
+            _ => true,
+        }
+    }
+
     // Whether there is no frame around them.
     fn has_no_end(&self) -> bool {
         self.ends.left.is_none() && self.ends.right.is_none()

@@ -1,9 +1,8 @@
 //! The listings of recordings. A call has two buffers of 65,536 octets on its stack: for what is
 //! read, and for lines.
 //!
-//! `inline(never)`: a loop has fewer instructions a frame than within `run_engine`, where all share
-//! the registers (`show` of TM frames 210, not 217). The loops of `check` are left there, beside no
-//! other (298, not 310).
+//! `inline(never)`: within `run_engine` all loops would share the registers, and take more
+//! instructions a frame (`show` of TM frames 217 and not 210; `check` fewer, 295 and not 310).
 ghost use Rattle.std.specs.Prelude.{◌≡◌, ◌≢◌, IfOk, IfErr, OnOk, Err};
 ghost use Rattle.sl_tcframe.specs.TcDelimited.{tc_frames_of};
 ghost use Rattle.sl_tmframe.specs.TmDelimited.{tm_frames_of};
@@ -109,6 +108,7 @@ pub fn show_tc<R: Read, W: Write>(
 ///
 /// The fault is `Read` where the reader had one, `TooLong` where more octets came than the managed
 /// limit, and `Write` where the writer had one.
+#[inline(never)]
 pub fn check_tm<R: Read, W: Write>(
     alloc: Global,
     managed: &Managed,
@@ -148,6 +148,7 @@ pub fn check_tm<R: Read, W: Write>(
 /// octets came than the managed limit, and `Memory` where memory was refused. Memory is refused
 /// only where the unit of a frame is accepted and a series is incomplete on its MAP, before the
 /// frame or after it.
+#[inline(never)]
 pub fn check_tc<R: Read, W: Write>(
     alloc: Global,
     managed: &Managed,

@@ -148,7 +148,7 @@ def tm(recording: Recording, head: bytes, it: Layout) -> Identification:
         lines = [f"sync markers {it.distance} octets apart, {'' if it.mask else 'not '}randomised"]
     else:
         what = f"{'randomised ' * bool(it.mask)}TM transfer frames of {it.length} octets"
-        what += ", with other octets between them" * (it.distance > it.length)
+        what += f", {it.distance - it.length} other octets between them" * (it.distance > it.length)
         lines, pieces = [], pieces_of(recording, it)
         places = [at for piece in pieces for at in piece[:BLOCK:it.distance]]
     read = (recording.read(at, it.length) for at in places[:max(300, BLOCK // it.length)])

@@ -1,12 +1,13 @@
 -- The state of a counter that was given frames of all virtual channels, CCSDS 232.0-B and 232.1-B. It
 -- counts the packets that a receiver hands over, and keeps no octet but those of a packet's header.
-use Rattle.std.specs.Prelude.{◌≡◌, ℕ, ◌<◌, Bool, List, Option}
+use Rattle.std.specs.Prelude.{◌≡◌, ◌≢◌, ℕ, ◌<◌, Bool, List, [], ◌∷◌, ◌++◌, Option, None}
 use Rattle.sl_cop.specs.declared.verdict.Verdict.{Verdict}
 use Rattle.sl_cop.specs.Farm.{FarmView}
 use Rattle.sl_tcframe.specs.TcFrame.{TcView}
 use Rattle.sl_tcflow.specs.CountStore.{count_at}
 use Rattle.sl_tcflow.specs.Farms.{HaveStepped, verdict_on}
 use Rattle.sl_tcflow.specs.Incomplete.{incomplete_of}
+use Rattle.sl_tcflow.specs.Receiver.{segment_by, unit_map}
 use Rattle.sl_tcflow.specs.Reception.{segments_of}
 use Rattle.sl_tcflow.specs.ReceptionParameters.{ReceptionParameters, is_plain}
 use Rattle.sl_tcflow.specs.Recording.{channel_at}
@@ -31,6 +32,18 @@ pub record HasCounted (r : ReceptionParameters) (state : CounterState) (views : 
   pub plain : state.plain ≡ r.plain
   pub farms : HaveStepped r state.farms views
   pub counts : AreCounted r state.counts views
+
+-- FARM-1 of each virtual channel has taken these frames and then another one, for whose unit no memory
+-- was there: the counts are those after the frames before it.
+pub record HasRefused (r : ReceptionParameters) (state : CounterState) (views : List TcView) (next : TcView) : Type 0 where
+  pub plain : state.plain ≡ r.plain
+  pub farms : HaveStepped r state.farms (views ++ next ∷ [])
+  pub counts : AreCounted r state.counts views
+
+-- the next frame's unit is accepted, and on its MAP a series is incomplete after that frame
+abbrev pub IsIncompleteAfter : ReceptionParameters → List TcView → TcView → Type 0
+IsIncompleteAfter r views next =
+    (segment_by r views next ≢ []) × (incomplete_of (segments_of r next.vc (unit_map r next) (views ++ next ∷ [])) ≢ None)
 
 -- the property holds for all parameters and lists of frames that may have led to this state
 abbrev pub ForCounted : CounterState → (ReceptionParameters → List TcView → Type 0) → Type 0

@@ -96,6 +96,7 @@ impl CountStore {
             step)) }
         ensures memory { OnErr result ((before : Option (List ℕ))
             → incomplete_with before segment.now.flags segment.now.octets ≢ None) }
+        ensures kept { OnErr result (self.new ≡ self.old) }
     {
         let index = usize::from(segment.channel);
         if index >= self.list.len() {

@@ -6,12 +6,13 @@ ghost use Rattle.sl_tcflow.specs.Anomaly.{IsReportOnFrame, dropped_by, held_of, 
 ghost use Rattle.sl_tcflow.specs.Anomaly.{tail_by};
 ghost use Rattle.sl_tcflow.specs.Farms.{verdict_on};
 ghost use Rattle.sl_tcflow.specs.Incomplete.{incomplete_of};
-ghost use Rattle.sl_tcflow.specs.Receiver.{IsIncompleteAround, ended_by, unit_map};
+ghost use Rattle.sl_tcflow.specs.Receiver.{ended_by, unit_map};
 ghost use Rattle.sl_tcflow.specs.Reception.{segments_of};
 ghost use Rattle.sl_tcflow.specs.ReceptionParameters.{ReceptionParameters};
 ghost use Rattle.sl_tcflow.specs.Recording.{channel_at};
 ghost use Rattle.sl_tcflow.specs.UnitCount.{ReportsPackets};
 ghost use Rattle.sl_tcflow.specs.UnitCounter.{AreCounted, ForCounted, ForCounts, HasCounted};
+ghost use Rattle.sl_tcflow.specs.UnitCounter.{HasRefused, IsIncompleteAfter};
 
 use crate::count_store::CountStore;
 use crate::farms::Farms;
@@ -25,7 +26,8 @@ use std::marker::Model;
 /// Counts the packets that a [`Receiver`](crate::Receiver) delivers from the same frames, and
 /// reports the same anomalies. Of a service data unit that comes in parts the counter keeps no
 /// octets but those of a packet's header. Its list of counts, of 24 octets each, reaches up to the
-/// greatest channel on which a first segment has come, and has memory for twice as many at most.
+/// greatest channel on which a first segment has come, and has memory for twice as many at most. No
+/// clause says what is kept: that is seen by reading.
 #[derive(Drop)]
 pub struct UnitCounter {
     // FARM-1 of each virtual channel.
@@ -49,7 +51,7 @@ impl Model for UnitCounter {
 impl UnitCounter {
     /// A counter that was given no frame yet. FARM-1 of each virtual channel is open, with this
     /// window and with the initial V(R) that `starts` has for the virtual channel. `plain` has the
-    /// virtual channels whose frames have no segment headers. The counter holds no memory yet.
+    /// virtual channels whose frames have no segment headers.
     pub fn new(alloc: Global, window: Window, starts: &Starts, plain: VcSet) -> UnitCounter
         // No frame was processed.
         ensures { HasCounted
@@ -66,8 +68,8 @@ impl UnitCounter {
     /// unit if FARM-1 accepts it. Returns the report of what the frame brought, with the numbers of
     /// packets of the service data unit that the unit completes.
     ///
-    /// Memory is refused only where the unit is accepted and a series is incomplete on its MAP,
-    /// before the frame or after it. After that no clause says what the counter reports.
+    /// Memory is refused only where the unit is accepted and a series is incomplete on its MAP
+    /// after the frame. Then FARM-1 has taken the frame, and all series are as before it.
     pub fn frame(&mut self, frame: &TcFrame) -> Result<TcStep, AllocError>
         // `r` and `views` in a clause are any parameters and any frames under which the counter may
         // have come to its state before the call. These frames and the new one are processed now,
@@ -98,9 +100,12 @@ impl UnitCounter {
             step.tail ≡ tail_by r views frame.now)) }
 
         // Memory is refused only where the frame's unit is accepted and a series is incomplete on
-        // its MAP, before the frame or after it.
+        // its MAP after the frame. FARM-1 has taken the frame then, and the series are those before
+        // it.
         ensures memory { OnErr result (ForCounted self.old (λ r views.
-            IsIncompleteAround r views frame.now)) }
+            IsIncompleteAfter r views frame.now)) }
+        ensures refused { OnErr result (ForCounted self.old (λ r views.
+            HasRefused r self.new views frame.now)) }
     {
         let verdict = self.farms.step(frame);
         let plain = self.plain.has(frame.vc());
@@ -176,7 +181,8 @@ fn count_unit(
     ensures packets { IfOk result (λ step. ForCounts plain series.old verdict frame.now
         (λ r views. ReportsPackets (ended_by r views frame.now) step)) }
     ensures memory { OnErr result (ForCounts plain series.old verdict frame.now (λ r views.
-        IsIncompleteAround r views frame.now)) }
+        IsIncompleteAfter r views frame.now)) }
+    ensures kept { OnErr result (series.new ≡ series.old) }
 {
     let segment = carried_segment(frame, plain);
     let map = map_in(&segment);

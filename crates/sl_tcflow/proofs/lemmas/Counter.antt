@@ -13,7 +13,7 @@ use Rattle.sl_tcflow.specs.CountStore.{CountsEach, count_at}
 use Rattle.sl_tcflow.specs.Farms.{HaveStepped, verdict_on}
 use Rattle.sl_tcflow.specs.Incomplete.{incomplete_of}
 use Rattle.sl_tcflow.specs.IncompleteSteps.{IsReportOnSegment, incomplete_with, packets_with}
-use Rattle.sl_tcflow.specs.Receiver.{AreIncomplete, IsIncompleteAround, ended_by, segment_by, unit_map}
+use Rattle.sl_tcflow.specs.Receiver.{AreIncomplete, ended_by, segment_by, unit_map}
 use Rattle.sl_tcflow.specs.Reception.{segments_of}
 use Rattle.sl_tcflow.specs.ReceptionParameters.{ReceptionParameters}
 use Rattle.sl_tcflow.specs.Recording.{channel_at}
@@ -21,10 +21,10 @@ use Rattle.sl_tcflow.specs.Segment.{SegmentView}
 use Rattle.sl_tcflow.specs.SeriesStore.{IsPlaced, at}
 use Rattle.sl_tcflow.specs.StepReport.{StepReport}
 use Rattle.sl_tcflow.specs.UnitCount.{CountsSeries, ForSeriesOf, ReportsPackets}
-use Rattle.sl_tcflow.specs.UnitCounter.{AreCounted, CounterState, ForCounted, ForCounts}
+use Rattle.sl_tcflow.specs.UnitCounter.{AreCounted, CounterState, ForCounted, ForCounts, IsIncompleteAfter}
 use Rattle.sl_tcflow.specs.declared.unit_count.UnitCount.{UnitCount}
 use Rattle.sl_tcflow.proofs.lemmas.Anomaly.Report.{reported_read}
-use Rattle.sl_tcflow.proofs.lemmas.Reception.Unit.{IsReadNext, around_read, channel_read, ended_none, ended_read, incomplete_read, incomplete_same, map_fits}
+use Rattle.sl_tcflow.proofs.lemmas.Reception.Unit.{IsReadNext, after_read, channel_read, ended_none, ended_read, incomplete_read, incomplete_same, map_fits}
 
 -- ---- one series
 
@@ -161,10 +161,10 @@ module _ (n : ℕ) (all : n ≡ channel_count) (r : ReceptionParameters) (counts
       subst (λ ended. ReportsPackets ended step) (sym (ended_read r old views next read is (are_listed n all r views) inside))
       (reported (at old read.channel) (counted_each n all r views counts counted read.channel (unit_inside r old views next read is inside)))
 
-  around_after : ((before : Option (List ℕ)) → incomplete_with before read.flags read.octets ≢ None) → IsIncompleteAround r views next
-  around_after begun =
+  after_begun : ((before : Option (List ℕ)) → incomplete_with before read.flags read.octets ≢ None) → IsIncompleteAfter r views next
+  after_begun begun =
       let old = series_to n r views in
-      around_read r old views next read is (are_listed n all r views) inside (inr (begun (at old read.channel)))
+      after_read r old views next read is (are_listed n all r views) inside (begun (at old read.channel))
 
 pub counts_read : (r : ReceptionParameters) (counts : List (Option UnitCount)) (views : List TcView) (next : TcView) (read : SegmentView) → IsReadNext r views next read → AreCounted r counts views → next.vc < 64
     → (new : List (Option UnitCount))
@@ -183,6 +183,6 @@ pub packets_read : (r : ReceptionParameters) (counts : List (Option UnitCount)) 
     → ReportsPackets (ended_by r views next) step
 packets_read = packets_after channel_count refl
 
-pub around_read_counted : (r : ReceptionParameters) (counts : List (Option UnitCount)) (views : List TcView) (next : TcView) (read : SegmentView) → IsReadNext r views next read → AreCounted r counts views → next.vc < 64
-    → ((before : Option (List ℕ)) → incomplete_with before read.flags read.octets ≢ None) → IsIncompleteAround r views next
-around_read_counted = around_after channel_count refl
+pub begun_read : (r : ReceptionParameters) (counts : List (Option UnitCount)) (views : List TcView) (next : TcView) (read : SegmentView) → IsReadNext r views next read → AreCounted r counts views → next.vc < 64
+    → ((before : Option (List ℕ)) → incomplete_with before read.flags read.octets ≢ None) → IsIncompleteAfter r views next
+begun_read = after_begun channel_count refl

@@ -14,6 +14,7 @@ use Rattle.sl_tcflow.specs.Farms.{verdict_on}
 use Rattle.sl_tcflow.specs.Incomplete.{incomplete_of}
 use Rattle.sl_tcflow.specs.IncompleteSteps.{incomplete_after, incomplete_with, packets_after, packets_with}
 use Rattle.sl_tcflow.specs.Receiver.{AreIncomplete, IsIncompleteAround, unit_map, map_of, segment_by, unit_channel, ended_by}
+use Rattle.sl_tcflow.specs.UnitCounter.{IsIncompleteAfter}
 use Rattle.sl_tcflow.specs.Reception.{packets_ended, segments_of}
 use Rattle.sl_tcflow.specs.ReceptionParameters.{ReceptionParameters, is_plain}
 use Rattle.sl_tcflow.specs.Recording.{channel_at}
@@ -171,6 +172,11 @@ module _ (r : ReceptionParameters) (old : List (Option (List ℕ))) (views : Lis
       → (at old index ≢ None) ⊎ (incomplete_after (at old index) unit ≢ None) → IsIncompleteAround r views next
   around_more are inside unit_is map_id_is here around = grind (arith, map_fits, segments_next, on_map, incomplete_next)
 
+  pub after_more : AreIncomplete r old views → next.vc < 64 → segment_by r views next ≡ unit ∷ []
+      → unit_map r next ≡ (header_at unit).map → index ≡ channel_at next.vc (header_at unit).map
+      → incomplete_after (at old index) unit ≢ None → IsIncompleteAfter r views next
+  after_more are inside unit_is map_id_is here after = grind (arith, map_fits, segments_next, on_map, incomplete_next)
+
 -- the same, from what is read of the unit
 module _ (r : ReceptionParameters) (old : List (Option (List ℕ))) (views : List TcView) (next : TcView) (read : SegmentView) (is : IsReadNext r views next read) where
   pub incomplete_read : (new : List (Option (List ℕ))) → AreIncomplete r old views → next.vc < 64
@@ -187,6 +193,10 @@ module _ (r : ReceptionParameters) (old : List (Option (List ℕ))) (views : Lis
       → (at old read.channel ≢ None) ⊎ (incomplete_with (at old read.channel) read.flags read.octets ≢ None) → IsIncompleteAround r views next
   around_read are inside around =
       around_more r old views next is.segment (channel_at next.vc (header_at is.segment).map) are inside is.accepted is.map_id refl (rw (is.view) at around)
+
+  pub after_read : AreIncomplete r old views → next.vc < 64 → incomplete_with (at old read.channel) read.flags read.octets ≢ None → IsIncompleteAfter r views next
+  after_read are inside after =
+      after_more r old views next is.segment (channel_at next.vc (header_at is.segment).map) are inside is.accepted is.map_id refl (rw (is.view) at after)
 
   -- the channel of the unit
   pub channel_read : read.channel ≡ unit_channel r next

@@ -2,7 +2,7 @@ use Rattle.std.proofs.Common.{◌∙◌, ap, arith, refl, subst, sym}
 use Rattle.sl_tcflow.specs.Anomaly.{IsReportOnFrame}
 use Rattle.sl_tcflow.specs.StepReport.{StepReport}
 use Rattle.sl_tcflow.proofs.lemmas.Anomaly.Report.{reported_none}
-use Rattle.sl_tcflow.proofs.lemmas.Counter.{around_read_counted, counted_same, counts_none, counts_read, packets_read, report_read}
+use Rattle.sl_tcflow.proofs.lemmas.Counter.{begun_read, counted_same, counts_none, counts_read, packets_read, report_read}
 use Rattle.sl_tcflow.proofs.lemmas.Reception.Unit.{map_read_is, none_read, some_read}
 use Rattle.sl_tcflow.proofs.unit_counter.count_unit.Goals as goal
 
@@ -47,4 +47,4 @@ returns-in-Ok-clause-packets c r views headers counted is =
 pub returns-in-Err-clause-memory : goal.returns-in-Err-clause-memory
 returns-in-Err-clause-memory c r views headers counted is =
     let read = some_read r views c.args.frame.now c.args.plain c.args.verdict _ c.in-Some.segment headers is c.carried_segment-segment.ensures (sym c.accepted_segment.ensures ∙ c.in-Some.is) in
-    around_read_counted r c.args.series.now views c.args.frame.now c.in-Some.segment read counted (omega (arith, c.requires)) c.in-Err.ensures.memory
+    begun_read r c.args.series.now views c.args.frame.now c.in-Some.segment read counted (omega (arith, c.requires)) c.in-Err.ensures.memory

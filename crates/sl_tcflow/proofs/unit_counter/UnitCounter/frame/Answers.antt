@@ -1,7 +1,7 @@
 use Rattle.std.proofs.Common.{◌∙◌, ap, subst, sym}
 use Rattle.sl_tcframe.specs.VcSet.{has_vc}
 use Rattle.sl_tcflow.specs.Farms.{HaveStepped}
-use Rattle.sl_tcflow.specs.UnitCounter.{CounterState}
+use Rattle.sl_tcflow.specs.UnitCounter.{AreCounted, CounterState}
 use Rattle.sl_tcflow.proofs.lemmas.Counter.{of_counted}
 use Rattle.sl_tcflow.proofs.unit_counter.UnitCounter.frame.Goals as goal
 
@@ -39,3 +39,11 @@ returns-clause-tail c r views processed = (of_counted _ _ _ _ _ _ c.self.view_is
 
 pub returns-in-Err-clause-memory : goal.returns-in-Err-clause-memory
 returns-in-Err-clause-memory c r views processed = of_counted _ _ _ _ _ _ c.self.view_is (c.has-plain.ensures.value ∙ ap (has_vc c.self.inside.plain) c.vc.ensures.value) c.step-verdict.ensures.verdict c.in-Err.ensures.memory r views processed
+
+pub returns-in-Err-clause-refused : goal.returns-in-Err-clause-refused
+returns-in-Err-clause-refused c r views processed =
+    record {
+      plain = ap (λ (s : CounterState). s.plain) c.self.view_is ∙ processed.plain;
+      farms = c.step-verdict.ensures.farms r views (subst (λ (s : CounterState). HaveStepped r s.farms views) (sym c.self.view_is) processed.farms);
+      counts = subst (λ counts. AreCounted r counts views) (sym (c.in-Err.ensures.kept ∙ ap (λ (s : CounterState). s.counts) c.self.view_is)) processed.counts;
+    }

@@ -1,4 +1,4 @@
-use Rattle.std.proofs.Common.{rules, ◌≡◌, ◌∙◌, Ok, Err, ap, refl, sym}
+use Rattle.std.proofs.Common.{rules, ◌≡◌, ◌∙◌, Ok, Err, ap, inr, refl, sym}
 use Rattle.std.specs.Prelude.{is_err}
 use Rattle.sl_tcflow.specs.AcceptedUnit.{views_of}
 use Rattle.sl_engine.specs.Kind.Tc.{as_read, ended_in, found_after}
@@ -58,4 +58,6 @@ pub returns-in-Err-frame-clause-memory : goal.returns-in-Err-frame-clause-memory
 returns-in-Err-frame-clause-memory c =
     let p = c.args.managed.now in
     let read : as_read p c.args.frame.now ≡ Ok c.in-Ok.view = search rules in
-    λ before h. (refl, is_incomplete_at_last before c.args.frame.now read (c.in-Err-frame.ensures.memory (reception_of p) (views_of (tc_format p) p.spacecraft before) h.processed))
+    λ before h.
+    let m = c.in-Err-frame.ensures.memory (reception_of p) (views_of (tc_format p) p.spacecraft before) h.processed in
+    (refl, is_incomplete_at_last before c.args.frame.now read (m.0, inr m.1))

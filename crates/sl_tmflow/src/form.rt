@@ -23,7 +23,7 @@ use std::marker::Model;
 
 /// Room for any piece, in octets. The longest piece is 2731 frames of 32 octets with an error
 /// control field, 87,392 octets in all. A packet of 65,542 octets fills their data fields of 24
-/// octets, together with up to 23 octets that were kept before it. Rounded up to whole 4096 octets.
+/// octets, together with up to 23 octets before it. Rounded up to whole 4096 octets.
 const PIECE_ROOM: usize = 90_112;
 
 /// Room, in octets, for a data field that isn't full, 2041 octets at most, and for the idle packet
@@ -179,6 +179,7 @@ impl<'d> TmForm<'d> {
         ensures capacity { vec_capacity form.old ≤ vec_capacity form.new }
     {
         loop {
+            // A copy, of which `form`, where octets are written, can hold no part.
             let shape = self.shape;
             let wanted = usize::from(shape.room()) - self.tail.len();
             if let Some(field) = next_field(self.packets, wanted) {
@@ -265,7 +266,7 @@ fn next_field(packets: &[Vec<u8>], wanted: usize) -> Option<FieldPackets<'_>>
     None
 }
 
-// Reserves memory for the next piece: for the octets that are kept, and for frames.
+// Reserves memory for the next piece: for the last octets of a virtual channel, and for frames.
 fn reserve_piece(octets: &mut Vec<u8>, form: &mut Vec<u8>) -> Result<(), AllocError>
     requires few { vec_len octets.old ≤ octets_room }
     ensures ready { OnOk result (octets_room ≤ vec_capacity octets.new) }
@@ -297,7 +298,7 @@ fn add_packets<'d>(
         ++ field.now.head.now) ≡ field_room_of shape.now }
     requires some { 0 < length field.now.head.now }
     requires short { length (field.now.head.now ++ field.now.rest.now) ≤ longest_packet }
-    // The octets are divided into the data fields of frames, and the octets beyond these are kept.
+    // The octets are divided into the data fields of frames, and those beyond these are answered.
     ensures frames { OnOk result (form.new.items ≡ form.old.items
         ++ filled_frames shape.now heading (Some (length tail.now))
         ((tail.now ++ concat (map vec_items field.now.inside.now))
@@ -435,57 +436,19 @@ fn add_last(
     ensures keeps { vec_capacity octets.old ≤ vec_capacity octets.new }
     ensures capacity { vec_capacity form.old ≤ vec_capacity form.new }
 {
-    // For the proof alone, at no cost: the range of the length of a data field.
-    let _ = shape.room();
+    let field_len = usize::from(shape.room());
     reserve_piece(octets, form)?;
     // With this memory reserved, adding isn't refused any.
     octets.extend_from_slice(tail)?;
     push_all(octets, packets)?;
-    let frames = add_filling(form, octets, shape, heading, tail.len() as u16)?;
-    Ok(frames)
-}
-
-// Fills the kept octets up by an idle packet, and adds the frames that they fill then. Keeps no
-// octets, and answers the number of frames. The first packet of the first frame starts at `start`,
-// and no packet starts in the other frames.
-fn add_filling(
-    form: &mut Vec<u8>,
-    octets: &mut Vec<u8>,
-    shape: &TmShape,
-    heading: Heading,
-    start: u16,
-) -> Result<usize, AllocError>
-    requires spacecraft { heading.spacecraft ≤ 1023 }
-    requires vc { heading.vc ≤ 7 }
-    requires start { start < field_room_of shape.now }
-    requires few { length octets.old.items < field_room_of shape.now }
-    // The octets, filled up, are the data fields of the frames. No octets lie beyond these.
-    ensures frames { OnOk result (form.new.items ≡ form.old.items
-        ++ filled_frames shape.now heading (Some start) (filled_up shape.now octets.old.items)) }
-    ensures beyond { OnOk result (octets.new.items
-        ≡ beyond_fields shape.now (filled_up shape.now octets.old.items)) }
-    ensures count { IfOk result (λ frames. frames
-        ≡ fields_in shape.now (filled_up shape.now octets.old.items)) }
-    ensures few { length octets.new.items < field_room_of shape.now }
-
-    // Memory is refused only where it wasn't reserved, and none is given back.
-    ensures full { OnErr result (octets_room ≤ vec_capacity octets.old
-        → vec_capacity form.old < vec_len form.old + piece_room) }
-    ensures keeps { vec_capacity octets.old ≤ vec_capacity octets.new }
-    ensures capacity { vec_capacity form.old ≤ vec_capacity form.new }
-{
-    let field_len = usize::from(shape.room());
     fill_up(octets, field_len)?;
     let frames = octets.len() / field_len;
     let whole = PacketOctets {
-        first: Some(start),
+        first: Some(tail.len() as u16),
         octets: octets.as_slice(),
     };
-    let pushed = push_fields(form, shape, heading, &whole);
-    // Cleared at a refusal too, so that fewer octets than a data field has are kept (clause `few`).
-    // None comes in `TmForm::next`, which has reserved the memory.
+    push_fields(form, shape, heading, &whole)?;
     octets.clear();
-    pushed?;
     Ok(frames)
 }
 

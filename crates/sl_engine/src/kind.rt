@@ -100,7 +100,7 @@ pub trait Counter: Followed {
     /// Whether memory may be refused at the last of these frames.
     ghost may_refuse_memory: { Parameters → List (List ℕ) → Type 0 };
 
-    /// No frame has been processed yet. Memory is taken only as frames come, if at all.
+    /// No frame has been processed yet.
     fn begin(alloc: Global, managed: &Managed) -> Self
         ensures { Self.has_processed result managed.now [] };
 

@@ -141,7 +141,7 @@ pub fn check_tm<R: Read, W: Write>(
 ///
 /// It keeps what was read last and the lines that aren't written yet, at most 65,536 octets each,
 /// one frame at most that began in an earlier read, the FARM-1 of 64 virtual channels, and for each
-/// of the 4,096 MAPs 24 octets at most, which count its incomplete series. No clause says what is
+/// of the 4,096 MAPs 48 octets at most, which count its incomplete series. No clause says what is
 /// kept: that is seen by reading.
 ///
 /// The fault is `Read` or `Write` where the reader or the writer had one, `TooLong` where more

@@ -222,6 +222,7 @@ fn normalise<D: Formed, R: Read, W: Write>(
 }
 
 /// Reads a recording to its end, and stores the packets that its frames deliver.
+// Apart from `run_engine`, as the listings are.
 #[inline(never)]
 pub fn store_packets<D: Deliverer, R: Read>(
     alloc: Global,

@@ -67,7 +67,7 @@ pub trait PacketSink {
 /// counting these packets.
 #[derive(Clone, Copy, Debug)]
 pub struct HandedOver<'a> {
-    /// The number of packets, idle ones left out. A sink has accepted all of them.
+    /// The number of packets, idle ones left out. A sink that was handed them has accepted all.
     pub packets: usize,
     /// The number of idle packets, which a sink isn't handed.
     pub idle: usize,

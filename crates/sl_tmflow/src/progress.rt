@@ -26,7 +26,6 @@ pub enum Progress {
 /// Adds the first octets of a data field to the octets `held` of an incomplete packet, as many as
 /// the packet needs, or the whole field where the packet's length isn't known yet. Answers what the
 /// frame with this field does to the packet. Where memory is refused, no octets are added.
-// Inlined: `check` of TM frames takes 8 % fewer instructions.
 #[inline(always)]
 pub fn add_field(held: &mut Vec<u8>, field: &PacketOctets) -> Result<Progress, AllocError>
     requires held { CanGoOn held.old.items }

@@ -98,7 +98,7 @@ impl Deliverer for Extractor {
             Ok(view) => view,
             Err(reason) => return Ok((SKIPPED, Err(reason))),
         };
-        // A `match`, here and below: at this exit several clauses are owed for each list of earlier
+        // A `match`: at this exit several clauses are owed for each list of earlier
         // frames. With `?` each of these clauses would need a proof that `?` passes the fault up
         // unchanged, as in the functions that call `deliver` (lemma `passed_up` of
         // proofs/lemmas/Link/Answers.antt). With `match` none does.

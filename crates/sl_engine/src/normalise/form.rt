@@ -59,6 +59,7 @@ pub trait Form {
 }
 
 /// Writes a normal form. The memory that it wants is taken before anything is written.
+// Apart from `run_engine`, as the listings are.
 #[inline(never)]
 pub fn write_form<F: Form, W: Write>(
     alloc: Global,

@@ -4,14 +4,14 @@ use Rattle.std.proofs.Common.{◌≡◌, ℕ, zero, suc, ◌+◌, ◌-◌, ◌*�
 use Rattle.std.specs.List.{concat, range_with_len}
 use Rattle.std.specs.Simd.{first_chunks}
 use Rattle.std.specs.Simd.Lanes.{zip2, pick_l, Each1}
-use Rattle.std.proofs.lemmas.List.{length-take, length-drop, take-append-drop, take_all, take_more, get_or-take, get_or-drop}
+use Rattle.std.proofs.lemmas.List.{length-take, length-drop, take-append-drop, take_all, take_more, drop-drop, get_or-take, get_or-drop}
 use Rattle.std.proofs.lemmas.List.Folds.{concat-append}
 use Rattle.std.proofs.lemmas.List.FromFn.{get_or-map-range_with_len}
 use Rattle.std.proofs.lemmas.Simd.{swz_l, pick_l_whole, SwzOk, SwzOk-from_Each1, Each1-chunk}
 use Rattle.std.proofs.Math.Dec.{T}
 use Rattle.sl_fields.specs.Fecf.{fecf_of}
-use Rattle.sl_fields.specs.FecfFolds.{part_of, first_two_of}
-use Rattle.sl_fields.proofs.FecfParts.{part-append, part-none, part-zeros, preset_by_84_CF}
+use Rattle.sl_fields.specs.FecfFolds.{part_of, first_two_of, plus_octets, head_of}
+use Rattle.sl_fields.proofs.FecfParts.{part-append, part-none, part-zeros, preset_by_84_CF, preset_by_inverses}
 use Rattle.sl_fields.proofs.FecfRecurrence.{part-recurs}
 use Rattle.sl_fields.proofs.FecfSlices.{zero_slice, slices, length-sum, length-across, part-cut, part-two, part-four}
 use Rattle.sl_fields.proofs.Xor.{xor_sums}
@@ -237,3 +237,72 @@ up_to-all octets count all =
     ∙ part-zeros 0 (30 - n) (0x84 ∷ (0xCF ∷ (take n octets ++ drop n octets)))
     ∙ ap (λ l. part_of 0 (0x84 ∷ (0xCF ∷ l))) (take-append-drop n octets)
     ∙ sym (preset_by_84_CF octets)
+
+-- ---- few octets: the last slices, behind one of the octets before them
+
+-- the constant `INVERSES`
+abbrev inverse_octets : List ℕ
+inverse_octets = replicate 16 0 ++ 0xFF ∷ (0xFF ∷ replicate 14 0)
+
+-- the slice by the look-up
+abbrev looked_up_head : List ℕ → List ℕ → ℕ → List ℕ → List ℕ
+looked_up_head inverses places n sixteen = zip2 bit_xor (piece n 32 inverses) (swz_l w8 16 sixteen 0 (piece n 32 places))
+
+all_heads : (octets : List ℕ) → map (λ n. looked_up_head inverse_octets place_octets n (one_by_one octets)) (range_with_len 2 15) ≡ map (λ n. head_of n (one_by_one octets)) (range_with_len 2 15)
+all_heads octets = refl
+
+pub head_looked_up : (inverses places : List ℕ) → inverses ≡ inverse_octets → places ≡ place_octets → (n : ℕ) (sixteen : List ℕ) → 2 ≤ n → n ≤ 16 → length sixteen ≡ 16 → looked_up_head inverses places n sixteen ≡ head_of n sixteen
+head_looked_up inverses places are_inverses are_places n sixteen least most long =
+    let whole : one_by_one sixteen ≡ sixteen = pick_l_whole 0 sixteen 16 long in
+    let below : n - 2 < 15 = omega arith in
+    let at : (f : ℕ → List ℕ) → get_or (map f (range_with_len 2 15)) (n - 2) [] ≡ f n = λ f. get_or-map-range_with_len f 2 15 (n - 2) n [] below (omega arith) in
+    ap (λ l. looked_up_head l places n sixteen) are_inverses ∙ ap (λ l. looked_up_head inverse_octets l n sixteen) are_places
+    ∙ ap (looked_up_head inverse_octets place_octets n) (sym whole) ∙ sym (at (λ k. looked_up_head inverse_octets place_octets k (one_by_one sixteen)))
+    ∙ ap (λ all. get_or all (n - 2) []) (all_heads sixteen)
+    ∙ at (λ k. head_of k (one_by_one sixteen)) ∙ ap (head_of n) whole
+
+-- the octets behind the head, as slices
+slice_first : (place next : ℕ) (octets : List ℕ) → place + 16 ≡ next → drop place octets ≡ take 16 (drop place octets) ++ drop next octets
+slice_first place next octets e =
+    sym (take-append-drop 16 (drop place octets)) ∙ ap (λ l. take 16 (drop place octets) ++ l) (drop-drop 16 place octets ∙ ap (λ n. drop n octets) e)
+
+slice_last : (place : ℕ) (octets : List ℕ) → length octets ≡ place + 16 → drop place octets ≡ take 16 (drop place octets)
+slice_last place octets e = sym (take_all 16 (drop place octets) (omega (arith, length-drop place octets)))
+
+two_last : (third : ℕ) (octets : List ℕ) → length octets ≡ third + 32 → take 16 (drop third octets) ++ take 16 (drop (third + 16) octets) ≡ drop third octets
+two_last third octets long =
+    ap (λ l. take 16 (drop third octets) ++ l) (sym (slice_last (third + 16) octets (omega arith))) ∙ sym (slice_first third (third + 16) octets refl)
+
+three_last : (second : ℕ) (octets : List ℕ) → length octets ≡ second + 48
+    → take 16 (drop second octets) ++ (take 16 (drop (second + 16) octets) ++ take 16 (drop (second + 32) octets)) ≡ drop second octets
+three_last second octets long =
+    let next : second + 16 + 16 ≡ second + 32 = omega arith in
+    ap (λ n. take 16 (drop second octets) ++ (take 16 (drop (second + 16) octets) ++ take 16 (drop n octets))) (sym next)
+    ∙ ap (λ l. take 16 (drop second octets) ++ l) (two_last (second + 16) octets (omega arith)) ∙ sym (slice_first second (second + 16) octets refl)
+
+inverted_front : (n : ℕ) (octets : List ℕ) → 2 ≤ n → n ≤ length octets → part_of 0 (plus_octets (0xFF ∷ (0xFF ∷ [])) (take n octets) ++ drop n octets) ≡ fecf_of octets
+inverted_front zero octets least h = absurd (omega arith)
+inverted_front (suc zero) octets least h = absurd (omega arith)
+inverted_front (suc (suc n)) [] least h = absurd (omega arith)
+inverted_front (suc (suc n)) (a ∷ []) least h = absurd (omega arith)
+inverted_front (suc (suc n)) (a ∷ (b ∷ octets)) least h =
+    ap (λ l. part_of 0 (bit_xor 0xFF a ∷ (bit_xor 0xFF b ∷ l))) (take-append-drop n octets) ∙ sym (preset_by_inverses a b octets)
+
+-- the head and the octets behind it have the remainder of all
+head-part : (n : ℕ) (octets : List ℕ) → 2 ≤ n → n ≤ length octets → part_of 0 (head_of n octets ++ drop n octets) ≡ fecf_of octets
+head-part n octets least h =
+    let front = plus_octets (0xFF ∷ (0xFF ∷ [])) (take n octets) in
+    ap (part_of 0) (append_assoc (replicate (16 - n) 0) front (drop n octets))
+    ∙ part-zeros 0 (16 - n) (front ++ drop n octets)
+    ∙ inverted_front n octets least h
+
+pub two_behind_head : (n : ℕ) (octets : List ℕ) → 2 ≤ n → length octets ≡ n + 32
+    → part_of 0 (zero_slice ++ (head_of n octets ++ (take 16 (drop n octets) ++ take 16 (drop (n + 16) octets)))) ≡ fecf_of octets
+two_behind_head n octets least long =
+    part-zeros 0 16 (head_of n octets ++ (take 16 (drop n octets) ++ take 16 (drop (n + 16) octets)))
+    ∙ ap (λ l. part_of 0 (head_of n octets ++ l)) (two_last n octets long) ∙ head-part n octets least (omega arith)
+
+pub three_behind_head : (n : ℕ) (octets : List ℕ) → 2 ≤ n → length octets ≡ n + 48
+    → part_of 0 (head_of n octets ++ (take 16 (drop n octets) ++ (take 16 (drop (n + 16) octets) ++ take 16 (drop (n + 32) octets)))) ≡ fecf_of octets
+three_behind_head n octets least long =
+    ap (λ l. part_of 0 (head_of n octets ++ l)) (three_last n octets long) ∙ head-part n octets least (omega arith)

@@ -7,7 +7,7 @@ use Rattle.std.proofs.lemmas.Grind.{flat_map-append}
 use Rattle.sl_fields.specs.Fecf.{octet_bits, bits_of, bits_number, plus_bit, plus_bits, fecf_of}
 use Rattle.sl_fields.specs.FecfFolds.{part_of}
 use Rattle.sl_fields.proofs.Division.{ran, zeros, ones, ran-append, length-ran, plus_bits-zeros, bits_number-plus, fecf_of-register, register_of-ran, fecf_of-append}
-use Rattle.sl_fields.proofs.FecfSums.{plus_bits-false, plus_bits-append, ran-plus}
+use Rattle.sl_fields.proofs.FecfSums.{plus_bits-false, plus_bits-append, ran-plus, ran-front}
 use Rattle.sl_fields.proofs.FecfWordLemmas.{remainder-left_over}
 
 -- ---- bits, and this many zeros after them
@@ -132,6 +132,21 @@ preset_by_84_CF octets =
     ∙ register_of-ran (bits_of octets)
     ∙ ap (λ bits. bits_number (ran ones bits)) (sym (append-nil (bits_of octets)))
     ∙ sym (part-left_over 0 (0x84 ∷ (0xCF ∷ octets)))
+
+-- the preset inverts the first two octets
+pub preset_by_inverses : (a b : ℕ) (octets : List ℕ) → fecf_of (a ∷ (b ∷ octets)) ≡ part_of 0 (bit_xor 0xFF a ∷ (bit_xor 0xFF b ∷ octets))
+preset_by_inverses a b octets =
+    let two = bits_of (a ∷ (b ∷ [])) in
+    let inverted = bits_of (bit_xor 0xFF a ∷ (bit_xor 0xFF b ∷ [])) in
+    let is : inverted ≡ plus_bits ones two =
+    ap (λ l. l ++ octet_bits (bit_xor 0xFF b)) (octet_bits-xor 0xFF a) ∙ ap (λ l. plus_bits (octet_bits 0xFF) (octet_bits a) ++ l) (octet_bits-xor 0xFF b) in
+    let word : ran ones two ≡ ran zeros inverted =
+    ran-front ones [] two refl refl ∙ plus_bits-false 16 (ran zeros (plus_bits ones two)) ∙ ap (ran zeros) (sym is) in
+    fecf_of-append (a ∷ (b ∷ [])) octets
+    ∙ ap (λ register. bits_number (ran register (bits_of octets))) word
+    ∙ ap bits_number (sym (ran-append zeros inverted (bits_of octets)))
+    ∙ ap (λ bits. bits_number (ran zeros bits)) (sym (append-nil (inverted ++ bits_of octets)))
+    ∙ sym (part-left_over 0 (bit_xor 0xFF a ∷ (bit_xor 0xFF b ∷ octets)))
 
 -- FF FF turn the preset into a register of zeros
 pub zeros_by_FF_FF : (octets : List ℕ) → fecf_of (0xFF ∷ (0xFF ∷ octets)) ≡ part_of 0 octets

@@ -1,5 +1,6 @@
 -- Octets of a message that are added to later ones, with zeros in their own place. Only contracts
--- of private functions cite `first_two_of`, and only they and `word_of` cite `part_of`.
+-- of private functions cite `first_two_of` and `head_of`, and only they and `word_of` cite
+-- `part_of`.
 use Rattle.std.specs.Prelude.{◌≡◌, ℕ, ◌+◌, ◌-◌, ◌*◌, ◌%◌, ◌^◌, ◌≤◌, false, List, [], ◌∷◌, ◌++◌}
 use Rattle.std.specs.Prelude.{length, take, replicate, bit_xor}
 use Rattle.sl_fields.specs.Fecf.{bits_of, bits_number, remainder, fecf_of}
@@ -22,6 +23,12 @@ abbrev pub plus_octets : List ℕ → List ℕ → List ℕ
 plus_octets [] octets = octets
 plus_octets (a ∷ added) [] = []
 plus_octets (a ∷ added) (o ∷ octets) = bit_xor a o ∷ plus_octets added octets
+
+-- The first `count` octets, two or more, at the end of a slice of sixteen, behind zeros. The first
+-- two are inverted, as the preset inverts them.
+abbrev pub head_of : ℕ → List ℕ → List ℕ
+head_of count octets =
+    replicate (16 - count) 0 ++ plus_octets (0xFF ∷ 0xFF ∷ []) (take count octets)
 
 -- the octets, with a run of octets added to those from this place on
 abbrev pub with_run_at : ℕ → List ℕ → List ℕ → List ℕ

@@ -43,7 +43,8 @@ pub fn fecf(octets: &[u8]) -> u16
         };
         return number(after_octets(preset, octets));
     }
-    // `folded` puts 84 CF before the message, and folds then. So its slice is divided from zeros.
+    // `folded` puts 84 CF before the message, or inverts the first two octets, and folds then. So
+    // its slice is divided from zeros.
     // (Only for the proof: `TakesIn` asks for a message that leaves zeros, which is FF FF.)
     let zeros = Register { high: 0, low: 0 };
     number(after_octets(zeros, &last_two(folded(octets))))

@@ -6,14 +6,14 @@
 //! x^96 + x^40 + 1. So an octet may be replaced by zero once it has been added to the octets 4, 11
 //! and 16 places after it. The same holds for 8, 22 and 32 places, and for 16, 44 and 64. The law
 //! `runs_may_move` says this; the folds use `part-recurs` (proofs/FecfRecurrence.antt).
-ghost use Rattle.std.specs.Prelude.{◌≡◌, ◌≤◌, ◌++◌, length, take, drop};
+ghost use Rattle.std.specs.Prelude.{◌≡◌, ◌+◌, ◌≤◌, ◌++◌, length, take, drop};
 ghost use Rattle.sl_fields.specs.Fecf.{fecf_of};
-ghost use Rattle.sl_fields.specs.FecfFolds.{part_of, first_two_of};
+ghost use Rattle.sl_fields.specs.FecfFolds.{part_of, first_two_of, head_of};
 
 use std::simd::prelude::*;
 
-// Sixteen octets from `count` on are the places from which `first_two` takes the octets of a slice:
-// the first `count` octets of a message, behind zeros. The place 128 stands for a zero.
+// Sixteen octets from `count` on are the places from which `first_two` and `head` take the octets
+// of a slice: the first `count` octets of a message, behind zeros. The place 128 stands for a zero.
 static PLACES: [u8; 32] = [
     128, 128, 128, 128, 128, 128, 128, 128, 128, 128, 128, 128, 128, 128, 128, 128, 0, 1, 2, 3, 4,
     5, 6, 7, 8, 9, 10, 11, 12, 13, 14, 15,
@@ -25,15 +25,95 @@ static PRESET: [u8; 48] = [
     0xCF, 0, 0, 0, 0, 0, 0, 0, 0, 0, 0, 0, 0, 0, 0, 0, 0,
 ];
 
+// Sixteen octets from `count` on are what `head` adds to a slice: FF FF to the first two of its
+// last `count` octets.
+static INVERSES: [u8; 32] = [
+    0, 0, 0, 0, 0, 0, 0, 0, 0, 0, 0, 0, 0, 0, 0, 0, 0xFF, 0xFF, 0, 0, 0, 0, 0, 0, 0, 0, 0, 0, 0, 0,
+    0, 0,
+];
+
 /// One slice whose remainder is the frame error control field of these octets.
 #[inline(always)]
 pub fn folded(octets: &[u8]) -> u8x16
     requires { 16 ≤ length octets.now }
     ensures { part_of 0 result ≡ fecf_of octets.now }
 {
-    let (first, second, third, fourth) = four_of_all(octets);
+    let (first, second, third, fourth) = four_slices(octets);
     let (third, fourth) = two_of_four(first, second, third, fourth);
     one_of_two(third, fourth)
+}
+
+// Four slices with the remainder of all. Of few octets these are slices as they come, with no sums:
+// of 50 to 64 octets this takes some 40 instructions less. (33 and 49 would leave one octet to the
+// head.) Many octets are told first, so that they take two instructions more and not ten.
+#[inline(always)]
+fn four_slices(octets: &[u8]) -> (u8x16, u8x16, u8x16, u8x16)
+    requires { 16 ≤ length octets.now }
+    ensures { part_of 0 (result.0 ++ (result.1 ++ (result.2 ++ result.3))) ≡ fecf_of octets.now }
+{
+    if octets.len() > 64 {
+        return four_of_all(octets);
+    }
+    match octets.len() {
+        34..=48 => two_behind_head(octets),
+        50..=64 => three_behind_head(octets),
+        _ => four_of_all(octets),
+    }
+}
+
+// The last two slices, behind one of the octets before them and one of zeros.
+#[inline(always)]
+fn two_behind_head(octets: &[u8]) -> (u8x16, u8x16, u8x16, u8x16)
+    requires least { 34 ≤ length octets.now }
+    requires most { length octets.now ≤ 48 }
+    ensures { part_of 0 (result.0 ++ (result.1 ++ (result.2 ++ result.3))) ≡ fecf_of octets.now }
+{
+    let third = octets.len() - 32;
+    (
+        u8x16::splat(0),
+        head(octets, third),
+        slice_at(octets, third),
+        slice_at(octets, third + 16),
+    )
+}
+
+// The last three slices, behind one of the octets before them.
+#[inline(always)]
+fn three_behind_head(octets: &[u8]) -> (u8x16, u8x16, u8x16, u8x16)
+    requires least { 50 ≤ length octets.now }
+    requires most { length octets.now ≤ 64 }
+    ensures { part_of 0 (result.0 ++ (result.1 ++ (result.2 ++ result.3))) ≡ fecf_of octets.now }
+{
+    let second = octets.len() - 48;
+    (
+        head(octets, second),
+        slice_at(octets, second),
+        slice_at(octets, second + 16),
+        slice_at(octets, second + 32),
+    )
+}
+
+// The first `count` octets at the end of a slice, behind zeros. The first two are inverted, which
+// is what the preset does: zeros leave a register of zeros as it is.
+#[inline(always)]
+fn head(octets: &[u8], count: usize) -> u8x16
+    requires least { 2 ≤ count }
+    requires most { count ≤ 16 }
+    requires long { 16 ≤ length octets.now }
+    ensures { result ≡ head_of count octets.now }
+{
+    let places = u8x16::from_slice(&PLACES[count..]);
+    u8x16::from_slice(&INVERSES[count..])
+        ^ u8x16::from_slice(octets).swizzle_dyn_within::<16>(places)
+}
+
+// The slice that begins at this place.
+#[inline(always)]
+fn slice_at(octets: &[u8], place: usize) -> u8x16
+    requires { place + 16 ≤ length octets.now }
+    ensures { result ≡ take 16 (drop place octets.now) }
+{
+    u8x16::from_slice(&octets[place..])
 }
 
 // Four slices with the remainder of all: each slice is added to the octets 16, 44 and 64 places

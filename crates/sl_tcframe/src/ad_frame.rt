@@ -1,6 +1,7 @@
 //! TC transfer frames of type AD that are written.
 ghost use Rattle.std.specs.Prelude.{◌≡◌, ◌+◌, ◌<◌, ◌≤◌, ◌++◌, length, vec_len, OnOk, OnErr};
 ghost use Rattle.std.specs.Vec.{vec_capacity};
+ghost use Rattle.sl_fields.specs.FecfField.{fecf_len, with_fecf};
 ghost use Rattle.sl_fields.specs.Field.{octets_of};
 ghost use Rattle.sl_tcframe.specs.AdFrame.{ad_fields, ad_frame, ad_len, plain_room_of};
 ghost use Rattle.sl_tcframe.specs.AdFrame.{segment_room_of, segment_unit};
@@ -46,14 +47,9 @@ pub fn push_tc(
     ensures full { OnErr result (vec_capacity out.old
         < vec_len out.old + ad_len shape.now (1 + length octets.now)) }
 {
-    let frame = AdFrame {
-        spacecraft,
-        vc,
-        ns,
-        segment_header: &header.write(),
-        octets,
-    };
-    push_ad(out, shape, &frame)
+    let len = frame_len(shape, 1 + octets.len());
+    let front = with_segment(frame_header(spacecraft, vc, ns, len), header.write());
+    push_ad(out, shape, len, &front, octets)
 }
 
 /// Adds a TC transfer frame (CCSDS 232.0-B) of type AD without a segment header to the end of
@@ -90,70 +86,55 @@ pub fn push_tc_plain(
     ensures full { OnErr result (vec_capacity out.old
         < vec_len out.old + ad_len shape.now (length octets.now)) }
 {
-    let plain = AdFrame {
-        spacecraft,
-        vc,
-        ns,
-        segment_header: &[],
-        octets,
-    };
-    push_ad(out, shape, &plain)
+    let len = frame_len(shape, octets.len());
+    let header = frame_header(spacecraft, vc, ns, len);
+    push_ad(out, shape, len, &header, octets)
 }
 
-// What a frame of type AD is made from: values of its header, and its data field in two parts.
-#[derive(Clone, Copy)]
-struct AdFrame<'a> {
-    spacecraft: u16,
-    vc: u8,
-    ns: u8,
-    // The first part: the octet of a segment header, or no octet.
-    segment_header: &'a [u8],
-    // The second part: the other octets.
-    octets: &'a [u8],
-}
-
-// Adds a frame of type AD to the end of `out`.
+// Adds a frame of type AD of `len` octets to the end of `out`: its front, which is its header and
+// the segment header, if it has one, and then the other octets of its data field.
 #[inline(always)]
-fn push_ad(out: &mut Vec<u8>, shape: &TcShape, frame: &AdFrame) -> Result<(), AllocError>
-    requires spacecraft { frame.now.spacecraft ≤ 1023 }
-    requires vc { frame.now.vc ≤ 63 }
-    // The two parts together are a data field of at most the greatest length. The bound isn't
-    // `plain_room_of`, which is the same for 16 <= max: `push_tc` has the bound of a segment, and
-    // no 16 <= max in its proof (see `frame_len`). For any `max` it is at least `plain_room_of`.
-    requires unit { length frame.now.segment_header.now + length frame.now.octets.now
-        ≤ 1 + segment_room_of shape.now }
+fn push_ad(
+    out: &mut Vec<u8>,
+    shape: &TcShape,
+    len: u16,
+    front: &[u8],
+    octets: &[u8],
+) -> Result<(), AllocError>
+    requires len { len ≡ length front.now + length octets.now + fecf_len shape.now.fecf }
     // The frame is added.
     ensures added { OnOk result (out.new.items ≡ out.old.items
-        ++ ad_frame shape.now frame.now.spacecraft frame.now.vc frame.now.ns
-        (frame.now.segment_header.now ++ frame.now.octets.now)) }
-    ensures len { OnOk result (vec_len out.new ≡ vec_len out.old
-        + ad_len shape.now (length frame.now.segment_header.now + length frame.now.octets.now)) }
+        ++ with_fecf shape.now.fecf (front.now ++ octets.now)) }
+    ensures len { OnOk result (vec_len out.new ≡ vec_len out.old + len) }
 
     // Memory is refused only where `out` had no room for the frame, and then nothing is added. The
     // capacity never shrinks.
     ensures unchanged { OnErr result (out.new.items ≡ out.old.items) }
     ensures capacity { vec_capacity out.old ≤ vec_capacity out.new }
-    ensures full { OnErr result (vec_capacity out.old < vec_len out.old
-        + ad_len shape.now (length frame.now.segment_header.now + length frame.now.octets.now)) }
+    ensures full { OnErr result (vec_capacity out.old < vec_len out.old + len) }
 {
-    let AdFrame {
-        spacecraft,
-        vc,
-        ns,
-        segment_header,
-        octets,
-    } = *frame;
     let start = out.len();
-    let len = frame_len(shape, segment_header.len() + octets.len());
     out.reserve(usize::from(len))?;
-    out.extend_from_slice(&frame_header(spacecraft, vc, ns, len))?;
-    out.extend_from_slice(segment_header)?;
+    out.extend_from_slice(front)?;
     out.extend_from_slice(octets)?;
     if !shape.fecf {
         return Ok(());
     }
     let field = fecf_field(&out.as_slice()[start..]);
     out.extend_from_slice(&field)
+}
+
+// The octets of a header and of the segment header after it: one array, since an addition to a
+// vector takes some ten instructions beside those for its octets.
+#[inline(always)]
+fn with_segment(header: [u8; 5], segment_header: [u8; 1]) -> [u8; 6]
+    ensures { result ≡ header ++ segment_header }
+{
+    let [segment] = segment_header;
+    // Copied, and not put together octet by octet, so that the header is stored as one number.
+    let mut octets = [segment; 6];
+    octets[..5].copy_from_slice(&header);
+    octets
 }
 
 // The length of a frame whose data field, its unit, is `unit` octets long.

@@ -159,6 +159,7 @@ impl<'d> TmForm<'d> {
     /// Memory is refused only where a piece is left, and only where it wasn't reserved with
     /// [`reserve`](TmForm::reserve). The piece is then still to come, and the octets of `form` are
     /// as they were.
+    #[inline(always)]
     pub fn next(&mut self, form: &mut Vec<u8>) -> Result<bool, AllocError>
         // The piece is the front of the octets that were still to come, and the octets after it are
         // still to come. `false` means that no octet was still to come.
@@ -285,6 +286,7 @@ fn reserve_piece(octets: &mut Vec<u8>, form: &mut Vec<u8>) -> Result<(), AllocEr
 // Adds the frames that octets and then packets fill. Answers their number, and the octets beyond
 // these frames. The first packet of the first frame starts after the `tail`, and no packet starts
 // in the other frames.
+#[inline(always)]
 fn add_packets<'d>(
     form: &mut Vec<u8>,
     shape: &TmShape,
@@ -322,20 +324,21 @@ fn add_packets<'d>(
         rest,
         ..
     } = *field;
-    let field_len = usize::from(shape.room());
+    // For the proof alone, at no cost: the range of the length of a data field.
+    let _ = shape.room();
     push_first(form, shape, heading, tail, inside, head)?;
     // The later frames have octets of one packet alone.
     let later = PacketOctets {
         first: None,
         octets: rest,
     };
-    push_fields(form, shape, heading.after(1), &later)?;
-    let beyond = rest.split_at(rest.len() - rest.len() % field_len).1;
-    Ok((rest.len() / field_len + 1, beyond))
+    let (frames, beyond) = push_fields(form, shape, heading.after(1), &later)?;
+    Ok((frames + 1, beyond))
 }
 
 // Adds a frame whose data field is a tail of octets, packets, and the head of a packet. Its first
 // packet starts after the tail.
+#[inline(always)]
 fn push_first(
     form: &mut Vec<u8>,
     shape: &TmShape,
@@ -442,12 +445,11 @@ fn add_last(
     octets.extend_from_slice(tail)?;
     push_all(octets, packets)?;
     fill_up(octets, field_len)?;
-    let frames = octets.len() / field_len;
     let whole = PacketOctets {
         first: Some(tail.len() as u16),
         octets: octets.as_slice(),
     };
-    push_fields(form, shape, heading, &whole)?;
+    let (frames, _) = push_fields(form, shape, heading, &whole)?;
     octets.clear();
     Ok(frames)
 }
@@ -487,16 +489,16 @@ fn fill_len(field_len: usize, len: usize) -> usize
     missing + field_len
 }
 
-// Adds a frame for each data field that the octets fill, and leaves out the octets beyond these.
-// The first packet start is that of the first frame, and no packet starts in the other frames. The
-// first frame has this heading.
+// Adds a frame for each data field that the octets fill. Answers the number of frames, which takes
+// no division here, and the octets beyond them, which are left out. The first packet start is that
+// of the first frame, and no packet starts in the other frames. The first frame has this heading.
 #[inline(always)]
-fn push_fields(
+fn push_fields<'a>(
     form: &mut Vec<u8>,
     shape: &TmShape,
     heading: Heading,
-    packets: &PacketOctets,
-) -> Result<(), AllocError>
+    packets: &PacketOctets<'a>,
+) -> Result<(usize, &'a [u8]), AllocError>
     requires spacecraft { heading.spacecraft ≤ 1023 }
     requires vc { heading.vc ≤ 7 }
     requires first { IfSome packets.now.first (λ first. first < field_room_of shape.now) }
@@ -505,6 +507,11 @@ fn push_fields(
         ++ filled_frames shape.now heading packets.now.first packets.now.octets.now) }
     ensures size { OnOk result (vec_len form.new
         ≡ vec_len form.old + frames_len shape.now packets.now.octets.now) }
+    ensures count { IfOk result (λ added. added.0 ≡ fields_in shape.now packets.now.octets.now) }
+    ensures most { IfOk result (λ added. added.0 ≤ length packets.now.octets.now) }
+    ensures beyond { IfOk result (λ added. added.1.now
+        ≡ beyond_fields shape.now packets.now.octets.now) }
+    ensures few { IfOk result (λ added. length added.1.now < field_room_of shape.now) }
 
     // Memory is refused only where `form` had no room for these frames, and none is given back.
     ensures full { OnErr result (vec_capacity form.old
@@ -514,6 +521,7 @@ fn push_fields(
     let field_len = usize::from(shape.room());
     let mut heading = heading;
     let mut first = packets.first;
+    let mut frames = 0;
     let mut left = packets.octets;
     while left.len() >= field_len {
         let (field, later) = left.split_at(field_len);
@@ -528,7 +536,8 @@ fn push_fields(
         )?;
         heading = heading.after(1);
         first = None;
+        frames += 1;
         left = later;
     }
-    Ok(())
+    Ok((frames, left))
 }

@@ -1,4 +1,4 @@
-use Rattle.std.proofs.Common.{◌-◌, ◌/◌, ◌%◌, ◌<◌, ◌≤◌, ◌++◌, ◌∙◌, None, Some, length, map, refl, sym, ap, arith, length-append}
+use Rattle.std.proofs.Common.{◌<◌, ◌≤◌, ◌++◌, ◌∙◌, None, Some, length, map, refl, sym, ap, arith, length-append}
 use Rattle.std.specs.List.{concat}
 use Rattle.std.specs.Vec.{vec_items}
 use Rattle.sl_packet.proofs.StoppingLemmas.{on_err}
@@ -17,8 +17,8 @@ push_first-requires-clause-start c =
     let inside = concat (map vec_items c.args.field.now.inside.now) in
     omega (arith, c.room.ensures.value, c.room.ensures.most, c.requires.whole, length-append (tail ++ inside) c.args.field.now.head.now, length-append tail inside)
 
-pub returns-in_err-push_fields-clause-full : goal.returns-in_err-push_fields-clause-full
-returns-in_err-push_fields-clause-full c =
+pub returns-in_err-frames-clause-full : goal.returns-in_err-frames-clause-full
+returns-in_err-frames-clause-full c =
     let format = c.args.shape.now in
     let field = c.args.field.now in
     let octets = c.args.tail.now ++ concat (map vec_items field.inside.now) in
@@ -30,8 +30,8 @@ returns-in_err-push_fields-clause-full c =
     let narrow : field_room_of format ≤ 2042 = omega (arith, c.room.ensures.value, c.room.ensures.most) in
     let small = small_piece format octets (field.head.now ++ field.rest.now) wide narrow few c.requires.short in
     let size = headed_len format c.args.heading (Some (length c.args.tail.now)) (octets ++ field.head.now) (omega (arith, wide)) c.requires.whole in
-    on_err c.from_residual-in_err-push_fields.result _
-    (omega (arith, c.in_err-push_fields.ensures.full, c.push_first.ensures.capacity, ap length c.in_ok-push_first.ensures.frame, length-append c.args.form.now.items frame, size, frames_len_of_both s, small))
+    on_err c.from_residual-in_err-frames.result _
+    (omega (arith, c.in_err-frames.ensures.full, c.push_first.ensures.capacity, ap length c.in_ok-push_first.ensures.frame, length-append c.args.form.now.items frame, size, frames_len_of_both s, small))
 
 pub returns-clause-frames : goal.returns-clause-frames
 returns-clause-frames c =
@@ -41,7 +41,7 @@ returns-clause-frames c =
     let s : FillsUp format octets (field.head.now ++ field.rest.now) field.head.now field.rest.now =
     record { roomy = omega (arith, c.room.ensures.value, c.room.ensures.least); divided = refl; whole = c.requires.whole } in
     let middle = c.push_first.new.form.items in
-    let two = c.in_ok-push_fields.ensures.frames ∙ ap (λ h. middle ++ filled_frames format h None field.rest.now) c.after.ensures in
+    let two = c.in_ok-frames.ensures.frames ∙ ap (λ h. middle ++ filled_frames format h None field.rest.now) c.after.ensures in
     frames_of_both s c.args.heading (Some (length c.args.tail.now)) c.args.form.now.items middle c.push_fields.new.form.items c.in_ok-push_first.ensures.frame two
 
 pub returns-clause-beyond : goal.returns-clause-beyond
@@ -51,9 +51,7 @@ returns-clause-beyond c =
     let octets = c.args.tail.now ++ concat (map vec_items field.inside.now) in
     let s : FillsUp format octets (field.head.now ++ field.rest.now) field.head.now field.rest.now =
     record { roomy = omega (arith, c.room.ensures.value, c.room.ensures.least); divided = refl; whole = c.requires.whole } in
-    let rest = field.rest.now in
-    let is = ap (λ n. length rest - length rest % n) (c.from-field_len.ensures ∙ c.room.ensures.value) in
-    c.split_at.ensures.back ∙ sym (beyond_both s (length rest - length rest % c.from-field_len.result) is)
+    c.in_ok-frames.ensures.beyond ∙ sym (beyond_both s)
 
 pub returns-clause-count : goal.returns-clause-count
 returns-clause-count c =
@@ -62,4 +60,4 @@ returns-clause-count c =
     let octets = c.args.tail.now ++ concat (map vec_items field.inside.now) in
     let s : FillsUp format octets (field.head.now ++ field.rest.now) field.head.now field.rest.now =
     record { roomy = omega (arith, c.room.ensures.value, c.room.ensures.least); divided = refl; whole = c.requires.whole } in
-    omega (arith, fields_of_both s, ap (λ n. length field.rest.now / n) (c.from-field_len.ensures ∙ c.room.ensures.value))
+    omega (arith, fields_of_both s, c.in_ok-frames.ensures.count)

@@ -1,5 +1,5 @@
 -- The code's steps: frames of the data fields that octets fill.
-use Rattle.std.proofs.Common.{◌≡◌, ℕ, zero, suc, ◌+◌, ◌-◌, ◌*◌, ◌%◌, ◌<◌, ◌≤◌, List, [], ◌++◌, length, drop, Option, None, sym, ◌∙◌, ap, arith, length-append, append_assoc, append-nil}
+use Rattle.std.proofs.Common.{◌≡◌, ℕ, zero, suc, ◌+◌, ◌*◌, ◌<◌, ◌≤◌, List, [], ◌++◌, length, drop, Option, None, sym, ◌∙◌, ap, arith, length-append, append_assoc, append-nil}
 use Rattle.std.proofs.lemmas.Grind.{common_steps}
 use Rattle.std.proofs.lemmas.List.{drop_all, drop-drop}
 use Rattle.std.specs.List.{concat}
@@ -31,12 +31,41 @@ pub one_more_field : (format : TmFormat) (left field later : List ℕ) → 0 < f
     → fields_in format left ≡ suc (fields_in format later)
 one_more_field format left field later roomy divided whole = grind (arith, one-mul, length-append, add-mul-div_right)
 
+pub one_more_beyond : (format : TmFormat) (left field later : List ℕ) → 0 < field_room_of format → left ≡ field ++ later → length field ≡ field_room_of format
+    → beyond_fields format left ≡ beyond_fields format later
+one_more_beyond format left field later roomy divided whole =
+    let from = fields_in format later * field_room_of format in
+    let fields = ap (λ n. n * field_room_of format) (one_more_field format left field later roomy divided whole) in
+    let rooms = suc-mul (fields_in format later) (field_room_of format) in
+    let at : fields_in format left * field_room_of format ≡ length field + from = omega (arith, fields, rooms, whole) in
+    ap (λ n. drop n left) at ∙ ap (drop (length field + from)) divided ∙ sym (drop-drop from (length field) (field ++ later)) ∙ ap (drop from) (drop-append_seam field later)
+
 pub next_field : (format : TmFormat) (heading : Heading) (first : Option ℕ) (left field later : List ℕ) → 0 < field_room_of format → left ≡ field ++ later → length field ≡ field_room_of format
     → field_frames format (fields_in format left) heading first left
     ≡ headed_frame format heading first field ++ field_frames format (fields_in format later) (heading_after heading 1) None later
 next_field format heading first left field later roomy divided whole = grind (arith, take-append_seam, drop-append_seam, one_more_field)
 
 -- ---- frames that were pushed so far
+
+-- these frames are as many as the data fields at the front of `octets` whose end `left` is, and as
+-- many fields and octets beyond them are left
+pub record IsCounted (format : TmFormat) (octets left : List ℕ) (frames : ℕ) : Type 0 where
+  pub count : frames + fields_in format left ≡ fields_in format octets
+  pub beyond : beyond_fields format left ≡ beyond_fields format octets
+  pub most : frames + length left ≤ length octets
+
+pub counts_next : (format : TmFormat) (octets left field later : List ℕ) (frames : ℕ) → 0 < field_room_of format → left ≡ field ++ later → length field ≡ field_room_of format
+    → IsCounted format octets left frames → IsCounted format octets later (frames + 1)
+counts_next format octets left field later frames roomy divided whole counted = record {
+  count = omega (arith, one_more_field format left field later roomy divided whole, counted.count);
+  beyond = sym (one_more_beyond format left field later roomy divided whole) ∙ counted.beyond;
+  most = omega (arith, counted.most, ap length divided, length-append field later, whole, roomy);
+}
+
+-- all are counted where no data field is left
+pub all_counted : (format : TmFormat) (octets left : List ℕ) (frames : ℕ) → length left < field_room_of format
+    → IsCounted format octets left frames → (frames ≡ fields_in format octets) × (left ≡ beyond_fields format octets)
+all_counted format octets left frames few counted = (omega (arith, none_filled format left few, counted.count), sym (few_beyond format left few) ∙ counted.beyond)
 
 pub record IsPushing (format : TmFormat) (heading : Heading) (end : List ℕ) (size : ℕ) (first : Option ℕ) (left form : List ℕ) (len : ℕ) : Type 0 where
   pub frames : form ++ field_frames format (fields_in format left) heading first left ≡ end
@@ -72,12 +101,8 @@ module _ {format : TmFormat} {octets packet head rest : List ℕ} (s : FillsUp f
   pub frames_len_of_both : frames_len format (octets ++ packet) ≡ format.len + frames_len format rest
   frames_len_of_both = let first = ap (λ n. n * format.len) fields_of_both in let lengths = suc-mul (fields_in format rest) format.len in omega arith
 
-  pub beyond_both : (from : ℕ) → from ≡ length rest - length rest % field_room_of format → beyond_fields format (octets ++ packet) ≡ drop from rest
-  beyond_both from is =
-      let fields = div-add-mod' (length rest) (field_room_of format) in
-      let rooms = suc-mul (fields_in format rest) (field_room_of format) in
-      let at : fields_in format (octets ++ packet) * field_room_of format ≡ length (octets ++ head) + from = omega (arith, ap (λ n. n * field_room_of format) fields_of_both, rooms, fields, s.whole, is) in
-      ap (λ n. drop n (octets ++ packet)) at ∙ ap (drop (length (octets ++ head) + from)) both ∙ sym (drop-drop from (length (octets ++ head)) ((octets ++ head) ++ rest)) ∙ ap (drop from) (drop-append_seam (octets ++ head) rest)
+  pub beyond_both : beyond_fields format (octets ++ packet) ≡ beyond_fields format rest
+  beyond_both = one_more_beyond format (octets ++ packet) (octets ++ head) rest s.roomy both s.whole
 
   pub frames_of_both : (heading : Heading) (first : Option ℕ) (form form₁ form₂ : List ℕ)
       → form₁ ≡ form ++ headed_frame format heading first (octets ++ head) → form₂ ≡ form₁ ++ filled_frames format (heading_after heading 1) None rest

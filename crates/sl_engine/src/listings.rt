@@ -1,8 +1,8 @@
 //! The listings of recordings. A call has two buffers of 65,536 octets on its stack: for what is
 //! read, and for lines.
 //!
-//! `inline(never)`: within `run_engine` all loops would share the registers, and take more
-//! instructions a frame (`show` of TM frames 217 and not 210; `check` fewer, 295 and not 310).
+//! `inline(never)`: within `run_engine` all loops would share the registers, and most would take more
+//! instructions a frame (`show` of TM frames 217 and not 210).
 ghost use Rattle.std.specs.Prelude.{◌≡◌, ◌≢◌, IfOk, IfErr, OnOk, Err};
 ghost use Rattle.sl_tcframe.specs.TcDelimited.{tc_frames_of};
 ghost use Rattle.sl_tmframe.specs.TmDelimited.{tm_frames_of};

@@ -43,3 +43,8 @@ IsMemoryRefused at_memory fault = (fault ≡ Memory) × at_memory
 -- flow crates); this is a round number above both
 abbrev pub piece_size : ℕ
 piece_size = 0x30000
+
+-- the octets that a text has room for once memory was taken: those that wait when a piece is added,
+-- and a piece
+abbrev pub form_size : ℕ
+form_size = 0x40000

@@ -1,8 +1,9 @@
 //! A normal form that is written piece by piece.
-ghost use Rattle.std.specs.Prelude.{◌≡◌, ◌≢◌, ◌≤◌, [], IfErr, OnOk, vec_len};
+ghost use Rattle.std.specs.Prelude.{◌≡◌, ◌≢◌, ◌≤◌, [], IfErr, OnErr, OnOk, false, true, vec_len};
 ghost use Rattle.std.specs.Vec.{vec_capacity};
 ghost use Rattle.sl_engine.specs.Io.Streams.{AddsText, StopsWriting, WritesText};
 ghost use Rattle.sl_engine.specs.Framing.{chunk_size};
+ghost use Rattle.sl_engine.specs.Normalise.Form.{form_size};
 
 mod tc;
 mod tm;
@@ -73,7 +74,28 @@ pub fn write_form<F: Form, W: Write>(
         ((writer.new ≡ writer.old) × (F.left form.old ≢ []))) }
 {
     let mut text = Vec::new(alloc);
-    if !form.next(&mut text)? {
+    let mut is_ready = false;
+    // `next` is called here alone, so that it becomes a part of this loop, and no piece costs a
+    // call.
+    while form.next(&mut text)? {
+        take_room(form, &mut text, is_ready)?;
+        is_ready = true;
+        write_chunk(writer, &mut text)?;
+    }
+    write_text(writer, text.as_slice())
+}
+
+// Takes the memory that is wanted beyond that of the first piece, unless it was taken before.
+fn take_room<F: Form>(form: &mut F, text: &mut Vec<u8>, is_ready: bool) -> Result<(), LinkFault>
+    requires { is_ready ≡ true → F.ready form.old × (form_size ≤ vec_capacity text.old) }
+    ensures ready { OnOk result (F.ready form.new) }
+    ensures room { OnOk result (form_size ≤ vec_capacity text.new) }
+    ensures left { OnOk result (F.left form.new ≡ F.left form.old) }
+    ensures text { OnOk result (text.new.items ≡ text.old.items) }
+    ensures fault { IfErr result (λ fault. fault ≡ LinkFault.Memory) }
+    ensures first { OnErr result (is_ready ≡ false) }
+{
+    if is_ready {
         return Ok(());
     }
     // This is room beyond the first piece, which may be longer than a chunk. Once that is written,
@@ -81,12 +103,7 @@ pub fn write_form<F: Form, W: Write>(
     if text.reserve(FORM_SIZE).is_err() {
         return Err(LinkFault::Memory);
     }
-    form.reserve(&mut text)?;
-    write_chunk(writer, &mut text)?;
-    while form.next(&mut text)? {
-        write_chunk(writer, &mut text)?;
-    }
-    write_text(writer, text.as_slice())
+    form.reserve(text)
 }
 
 // Writes octets that wait, where they are more than a chunk.

@@ -1,5 +1,5 @@
 -- A normal form that is written piece by piece.
-use Rattle.std.proofs.Common.{◌≡◌, ◌≢◌, ℕ, List, [], ◌++◌, length, Option, refl, sym, subst, ◌∙◌, ap, arith, append_assoc, append-nil, length-append}
+use Rattle.std.proofs.Common.{◌≡◌, ◌≢◌, ℕ, Bool, true, false, List, [], ◌++◌, length, Option, refl, sym, subst, ◌∙◌, ap, arith, append_assoc, append-nil, length-append}
 use Rattle.std.proofs.KnownBytes.{Appends-nil}
 use Rattle.sl_tmflow.specs.Form.{AddsPiece}
 use Rattle.sl_tmflow.specs.NormalForm.{normal_form}
@@ -8,6 +8,7 @@ use Rattle.sl_tcflow.specs.Recording.{tc_lists}
 use Rattle.sl_tcflow.specs.TcNormalForm.{tc_normal_form_of}
 use Rattle.sl_io.specs.declared.counted.Counted.{Counted}
 use Rattle.sl_io.specs.declared.fault.LinkFault.{LinkFault}
+use Rattle.sl_io.specs.declared.fault.LinkFault.TheVariants.{Memory}
 use Rattle.sl_engine.specs.Io.Streams.{AddsText, StopsWriting}
 use Rattle.sl_engine.specs.Link.Counted.{stream_of}
 use Rattle.sl_engine.specs.Link.Managed.{Parameters, tm_format, tc_format}
@@ -15,7 +16,7 @@ use Rattle.sl_engine.specs.Kind.Tc.{tc_packets}
 use Rattle.sl_engine.specs.Normalise.Tc.{tc_form_of}
 use Rattle.sl_engine.specs.Kind.Tm.{tm_packets}
 use Rattle.sl_engine.specs.Normalise.Tm.{tm_form_of}
-use Rattle.sl_engine.proofs.lemmas.Io.Streams.{AddsText-trans, stops_before, writer_stops_waiting}
+use Rattle.sl_engine.proofs.lemmas.Io.Streams.{AddsText-trans, stops_at_memory, stops_before, writer_stops_waiting}
 
 -- where a piece is made, octets were still to come
 pub piece_left : {left text left' text' : List ℕ} → AddsPiece left text left' text' → left ≢ []
@@ -25,17 +26,28 @@ piece_left {left'} a none = let long = a.some in absurd (omega (arith, ap length
 same_after : {left text left' text' : List ℕ} → AddsPiece left text left' text' → text' ++ left' ≡ text ++ left
 same_after {left} {text} {left'} a = rw (a.added, append_assoc text a.piece left', a.front) refl
 
--- after the first piece, and where memory was taken then, nothing is written
-pub form_begun : {W : Type 0} {contents : W → Option (List ℕ)} {writer : Counted W} {left text left' text' left'' text'' : List ℕ} → text ≡ [] → AddsPiece left text left' text' → left'' ≡ left' → text'' ≡ text'
-    → AddsText contents writer writer [] (text'' ++ left'') left
-form_begun {contents} {writer} {left} none a kept same =
-    record { written = []; parts = rw (same, kept, same_after a, none) refl; writes = Appends-nil (contents (stream_of writer)); no_fault = refl }
+-- nothing is written yet
+pub form_begun : {W : Type 0} {contents : W → Option (List ℕ)} {writer : Counted W} {left text : List ℕ} → text ≡ [] → AddsText contents writer writer [] (text ++ left) left
+form_begun {contents} {writer} none = record { written = []; parts = rw none refl; writes = Appends-nil (contents (stream_of writer)); no_fault = refl }
+
+-- memory was refused before anything was written, where octets were to come
+pub stopped_first : {W : Type 0} {contents : W → Option (List ℕ)} {old new : Counted W} {left octets : List ℕ} {fault : LinkFault} → new ≡ old → left ≡ octets → left ≢ [] → fault ≡ Memory
+    → StopsWriting contents old new octets ((new ≡ old) × (octets ≢ [])) fault
+stopped_first {contents} {old} {octets} same is some memory = rw (memory, same) (stops_at_memory contents old octets (refl, λ none. some (is ∙ none)))
+
+pub is_false : (b : Bool) → (b ≡ true → ⊥) → b ≡ false
+is_false true never = absurd (never refl)
+is_false false never = refl
 
 -- A form is written: of its octets those that wait in a text, and those that are still to come, aren't written yet.
 module _ {W : Type 0} {contents : W → Option (List ℕ)} {old new : Counted W} {text octets : List ℕ} where
   -- after one piece
   pub next_piece : {left left' text' : List ℕ} → AddsText contents old new [] (text ++ left) octets → AddsPiece left text left' text' → AddsText contents old new [] (text' ++ left') octets
   next_piece w a = subst (λ l. AddsText contents old new [] l octets) (sym (same_after a)) w
+
+  -- where memory was taken for more
+  pub room_taken : {left left' text' : List ℕ} → AddsText contents old new [] (text ++ left) octets → text' ≡ text → left' ≡ left → AddsText contents old new [] (text' ++ left') octets
+  room_taken w same kept = rw (same, kept) w
 
   -- where some of what waited was written
   pub chunk_written : {new' : Counted W} {text' : List ℕ} (left : List ℕ) → AddsText contents old new [] (text ++ left) octets → AddsText contents new new' text text' [] → AddsText contents old new' [] (text' ++ left) octets

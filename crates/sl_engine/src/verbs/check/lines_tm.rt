@@ -1,5 +1,5 @@
 //! The lines of the anomalies of a TM recording.
-ghost use Rattle.std.specs.Prelude.{◌≡◌, ◌++◌, length, Ok};
+ghost use Rattle.std.specs.Prelude.{◌≡◌, ◌++◌, ℕ, true, [], length, Ok};
 ghost use Rattle.std.specs.List.{concat};
 ghost use Rattle.sl_engine.specs.Io.Lines.{HasRoom, HasRoomFor, line_width};
 ghost use Rattle.sl_engine.specs.Verbs.Check.Checking.{AddsAnomalies};
@@ -29,13 +29,17 @@ pub fn tm_anomaly_lines(lines: &mut Lines, offset: u64, found: Result<TmFound, T
     }
 }
 
-// The lines of the anomalies, in their order.
+// The lines of the anomalies, in their order. Nearly every frame has none, and is done after four
+// tests, with no numbers of lines to add up.
 #[inline(always)]
 fn tm_found_lines(lines: &mut Lines, offset: u64, found: &TmFound) -> u64
     requires { HasRoom lines.old }
     ensures text { lines.new ≡ lines.old ++ concat (tm_anomaly_lines offset (Ok found.now)) }
     ensures number { result ≡ length (tm_anomaly_lines offset (Ok found.now)) }
 {
+    if has_no_anomaly(found) {
+        return 0;
+    }
     let at = AnomalyPlace {
         offset,
         vc: u32::from(found.vc),
@@ -47,6 +51,17 @@ fn tm_found_lines(lines: &mut Lines, offset: u64, found: &TmFound) -> u64
     let opaque = event_lines(lines, at, b" opaque", found.opaque, None);
     let foreign = event_lines(lines, at, b" foreign", found.foreign, None);
     gaps + drops + opaque + foreign
+}
+
+// Whether the frame has no anomaly.
+#[inline(always)]
+fn has_no_anomaly(found: &TmFound) -> bool
+    ensures { result ≡ true → (offset : ℕ) → tm_anomaly_lines offset (Ok found.now) ≡ [] }
+{
+    match found.gap {
+        None => found.dropped == 0 && !found.opaque && !found.foreign,
+        Some(_) => false,
+    }
 }
 
 // Adds the line of a gap, if another virtual channel frame count was expected.

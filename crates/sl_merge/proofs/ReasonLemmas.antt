@@ -1,11 +1,11 @@
 -- Stretches of frames, one frame after another.
-use Rattle.std.proofs.Common.{◌≡◌, ◌≤◌, ℕ, ◌+◌, ◌==◌, Bool, true, false, cond, List, [], ◌∷◌, Option, None, Some, refl, sym, ◌∙◌, ap, ap₂, arith}
-use Rattle.std.specs.Prelude.{◌&&◌, ◌||◌, nat_le}
+use Rattle.std.proofs.Common.{◌≡◌, ◌≤◌, ℕ, ◌+◌, Bool, true, false, List, [], ◌∷◌, Option, None, Some, refl, sym, ◌∙◌, ap, ap₂, arith}
+use Rattle.std.specs.Prelude.{◌&&◌}
 use Rattle.sl_merge.specs.declared.channel.Tally.{Tally}
 use Rattle.sl_merge.specs.declared.fate.Fate.{Fate}
 use Rattle.sl_merge.specs.declared.fate.Fate.TheVariants.{Both, First, FirstLeftOut, Second, SecondLeftOut}
 use Rattle.sl_merge.specs.Fates.{Fated}
-use Rattle.sl_merge.specs.Merge.{Stretch, are_fair, are_fair_later, before_after, begun_by, count_of, cut_at, empty_stretch, few, follows_last, is_repeat, stretches, unless, with_fate, without_repeats}
+use Rattle.sl_merge.specs.Merge.{Stretch, are_fair, are_fair_later, before_after, begun_by, count_of, cut_at, empty_stretch, is_repeat, stretches, unless, with_fate, without_repeats}
 use Rattle.sl_merge.specs.Tally.{admits, ends_fairly, tally_after}
 use Rattle.sl_merge.specs.Told.{from_side, turn_if}
 

@@ -20,8 +20,8 @@ pub enum Fate {
 }
 
 impl Fate {
-    /// Whether the frame stands in the merge.
-    pub(crate) fn stands(self) -> bool
+    /// Whether the frame stands in the merge: it is not left out.
+    pub fn stands(self) -> bool
         ensures { result ≡ stands self }
     {
         match self {
@@ -31,7 +31,7 @@ impl Fate {
     }
 
     /// Whether the first recording has the frame.
-    pub(crate) fn is_of_first(self) -> bool
+    pub fn is_of_first(self) -> bool
         ensures { result ≡ of_first self }
     {
         match self {
@@ -41,7 +41,7 @@ impl Fate {
     }
 
     /// The fate with the recordings exchanged.
-    pub(crate) fn turned(self) -> Fate
+    pub fn turned(self) -> Fate
         ensures { result ≡ turned self }
     {
         match self {

@@ -12,10 +12,8 @@ mod fate;
 mod item;
 mod merge;
 mod octets;
-mod order;
 mod twice;
 
 pub use counts::{FateCounts, LeftOut, count_fates};
 pub use fate::Fate;
 pub use merge::{is_merge_tm, merged_recording};
-pub use order::{Order, Unordered, find_order};

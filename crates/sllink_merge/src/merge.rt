@@ -6,9 +6,8 @@ ghost use Rattle.sllink_merge.specs.Run.{counts_of, is_sure, octets_of};
 
 use crate::command_line::Link;
 use crate::totals::packets_of;
-use sl_merge::{
-    Fate, FateCounts, Order, Unordered, count_fates, find_order, is_merge_tm, merged_recording,
-};
+use sl_merge::{Fate, FateCounts, count_fates, is_merge_tm, merged_recording};
+use sl_order::{Order, Unordered, find_order};
 use std::alloc::{AllocError, Global};
 use std::hash::BuildHasher;
 use thiserror::Error;

@@ -1,4 +1,4 @@
-use Rattle.std.proofs.Common.{◌≡◌, ◌∙◌, ◌+◌, ◌<◌, ◌++◌, append-nil, ap, arith, drop, length, slice_index_or, sym}
+use Rattle.std.proofs.Common.{◌∙◌, ◌+◌, ◌<◌, ◌++◌, append-nil, ap, arith, drop, length, slice_index_or, sym}
 use Rattle.std.proofs.lemmas.List.{drop_more}
 use Rattle.std.proofs.lemmas.Result.{IfOk-from_err}
 use Rattle.sl_tmframe.specs.TmDelimited.{tm_frames_of}

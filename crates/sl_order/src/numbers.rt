@@ -1,9 +1,9 @@
 //! The order of frames by their numbers.
-use crate::fate::Fate;
-use crate::order::marks::{Mark, Numbered, step};
-use crate::order::recording::{Recording, are_near};
-use crate::order::stretch::Stretch;
-use crate::order::taken::Left;
+use crate::marks::{Mark, Numbered, step};
+use crate::recording::{Recording, are_near};
+use crate::stretch::Stretch;
+use crate::taken::Left;
+use sl_merge::Fate;
 use std::alloc::AllocError;
 
 /// Two recordings, of which frames are merged.
@@ -27,7 +27,8 @@ impl<'a> Both<'a> {
 }
 
 /// Puts the frames of two recordings on one channel in the order of their numbers, into `fates`.
-/// Answers whether the frames allow it: equal numbers have equal octets, and the brackets rise.
+/// Answers whether the frames allow it: those of one number are one frame or its copies, and the
+/// brackets rise.
 pub fn order_by_number(
     both: &Both<'_>,
     mut firsts: Numbered<'_>,
@@ -61,7 +62,7 @@ pub fn order_by_number(
 }
 
 // The fate of the frame with the least number, or of both, and its bracket. None where two frames
-// of one number aren't the same.
+// of one number are neither the same nor copies.
 fn next_fate(
     both: &Both<'_>,
     first: Option<(Mark, i64)>,
@@ -83,7 +84,7 @@ fn next_fate(
     }
 }
 
-// The fate of two frames of one number.
+// The fate of two frames of one number: none where they are neither the same nor copies.
 fn fate_of_same(both: &Both<'_>, one: &Mark, other: &Mark) -> Option<(Fate, u32)> {
     if one.bracket != other.bracket {
         return None;
@@ -112,9 +113,9 @@ fn fate_of_copies(both: &Both<'_>, first: u32, second: u32) -> Fate {
 fn damage(recording: &Recording<'_>, place: u32) -> u8 {
     let before = place
         .checked_sub(1)
-        .and_then(|before| recording.master(before));
-    let after = recording.master(place.saturating_add(1));
-    let is_between = match (before, recording.master(place), after) {
+        .and_then(|before| recording.mc_count(before));
+    let after = recording.mc_count(place.saturating_add(1));
+    let is_between = match (before, recording.mc_count(place), after) {
         (Some(before), Some(count), Some(after)) => step(before, count) <= step(before, after),
         _ => true,
     };

@@ -1,8 +1,8 @@
 //! The frames of one channel, from one place of one order to the next.
-use crate::fate::Fate;
-use crate::order::marks::{Ends, Mark, behind, count_in, front};
-use crate::order::stretch::Stretch;
-use crate::order::taken::{last_count, push_times};
+use crate::marks::{Ends, Mark, behind, count_in, front};
+use crate::stretch::Stretch;
+use crate::taken::{last_count, push_times};
+use sl_merge::Fate;
 use std::alloc::AllocError;
 
 /// The frames of a channel that are next in both recordings, by their brackets.

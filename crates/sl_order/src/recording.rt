@@ -58,7 +58,7 @@ impl<'a> Recording<'a> {
     }
 
     /// The master channel frame count of the frame at a place, if there is one.
-    pub fn master(&self, place: u32) -> Option<u8> {
+    pub fn mc_count(&self, place: u32) -> Option<u8> {
         self.frame(place).get(2).copied()
     }
 

@@ -1,9 +1,9 @@
 //! What is chosen where the counts don't tell an order.
-use crate::fate::Fate;
-use crate::order::marks::step;
-use crate::order::numbers::{Both, order_by_bracket, order_by_position};
-use crate::order::stretch::{Known, Stretch};
-use crate::order::taken::{Left, push_times};
+use crate::marks::step;
+use crate::numbers::{Both, order_by_bracket, order_by_position};
+use crate::stretch::{Known, Stretch};
+use crate::taken::{Left, push_times};
+use sl_merge::Fate;
 use std::alloc::AllocError;
 
 /// How much is chosen where the counts leave an order open.

@@ -1,4 +1,10 @@
-//! The order of the frames of two recordings.
+//! How the frames of two recordings of TM transfer frames (CCSDS 132.0-B) stand to each other.
+//!
+//! [`find_order`] looks for the fates of a merge. What it finds is checked by
+//! [`is_merge_tm`](sl_merge::is_merge_tm) and not trusted, so nothing is proved of its functions but
+//! that they are safe and return.
+#![tactic(auto)]
+
 mod anchors;
 mod channel;
 mod choice;
@@ -16,7 +22,6 @@ mod taken;
 mod ways;
 mod weave;
 
-use crate::fate::Fate;
 use anchors::set_anchors;
 use choice::Care;
 use copies::count_copies;
@@ -25,6 +30,7 @@ use numbers::Both;
 use positions::set_positions;
 use recording::Recording;
 use seen::seen_frames;
+use sl_merge::Fate;
 use sl_tmframe::TmShape;
 use std::alloc::{AllocError, Global};
 use std::hash::BuildHasher;
@@ -87,7 +93,7 @@ impl From<AllocError> for Unordered {
 }
 
 /// Finds how the frames of two recordings of one pass stand to each other: the fates of a merge.
-/// No clause says that they are right, so ask [`is_merge_tm`](crate::is_merge_tm).
+/// No clause says that they are right, so ask [`is_merge_tm`](sl_merge::is_merge_tm).
 ///
 /// Frames with equal octets whose payload comes once in either recording are the same. Between them
 /// the virtual channel frame counts number the frames of a channel. Where these don't tell an order,

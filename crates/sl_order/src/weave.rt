@@ -1,7 +1,7 @@
 //! One order of all channels.
-use crate::fate::Fate;
-use crate::order::lanes::Frames;
-use crate::order::seen::Seen;
+use crate::lanes::Frames;
+use crate::seen::Seen;
+use sl_merge::Fate;
 use std::alloc::{AllocError, Global};
 
 /// What isn't in order yet: the frames of both recordings, and the fates of the channels.

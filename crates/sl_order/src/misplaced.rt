@@ -1,7 +1,7 @@
 //! Frames amid a run of the other recording, which have a damaged count or virtual channel.
-use crate::fate::Fate;
-use crate::order::marks::Mark;
-use crate::order::taken::Left;
+use crate::marks::Mark;
+use crate::taken::Left;
+use sl_merge::Fate;
 use std::alloc::{AllocError, Global};
 
 /// So many frames at most are taken for damaged ones.

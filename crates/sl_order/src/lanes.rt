@@ -1,13 +1,13 @@
 //! The orders of all channels.
-use crate::fate::Fate;
-use crate::order::channel::Channel;
-use crate::order::choice::{Care, Choice, choose, is_idle};
-use crate::order::marks::{Mark, marks_on};
-use crate::order::misplaced::leave_misplaced;
-use crate::order::numbers::Both;
-use crate::order::seen::{Role, Seen};
-use crate::order::stretch::{Stretch, order_stretch};
-use crate::order::taken::Left;
+use crate::channel::Channel;
+use crate::choice::{Care, Choice, choose, is_idle};
+use crate::marks::{Mark, marks_on};
+use crate::misplaced::leave_misplaced;
+use crate::numbers::Both;
+use crate::seen::{Role, Seen};
+use crate::stretch::{Stretch, order_stretch};
+use crate::taken::Left;
+use sl_merge::Fate;
 use std::alloc::{AllocError, Global};
 
 /// Virtual channels have the numbers 0 to 7.

@@ -1,7 +1,7 @@
 //! Where frames stand between two anchors, by the master channel frame counts.
-use crate::order::lanes::Frames;
-use crate::order::marks::step;
-use crate::order::seen::{Role, Seen};
+use crate::lanes::Frames;
+use crate::marks::step;
+use crate::seen::{Role, Seen};
 use std::alloc::{AllocError, Global};
 
 /// The frames of a recording between two anchors.
@@ -41,8 +41,8 @@ fn reaches(alloc: Global, frames: &mut [Seen]) -> Result<Vec<Reach>, AllocError>
     let mut last = None;
     for seen in frames.iter_mut() {
         if seen.stands() {
-            reach = reach.with(last, seen.master);
-            last = Some(seen.master);
+            reach = reach.with(last, seen.mc_count);
+            last = Some(seen.mc_count);
             seen.position = reach.width;
             if seen.role == Role::Anchor {
                 reaches.push(reach)?;
@@ -73,9 +73,9 @@ impl Reach {
     }
 
     // With one more frame.
-    fn with(self, last: Option<u8>, master: u8) -> Reach {
+    fn with(self, last: Option<u8>, mc_count: u8) -> Reach {
         let step = match last {
-            Some(last) => u32::from(step(last, master)),
+            Some(last) => u32::from(step(last, mc_count)),
             None => 0,
         };
         let width = self.width.saturating_add(step);

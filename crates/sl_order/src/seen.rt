@@ -1,7 +1,7 @@
 //! What of the frames of a recording their order needs.
 ghost use Rattle.std.specs.Prelude.{◌≡◌, length};
 
-use crate::order::recording::Recording;
+use crate::recording::Recording;
 use sl_tmframe::{TmFrame, TmShape};
 use std::alloc::{AllocError, Global};
 
@@ -33,7 +33,7 @@ pub struct Seen {
     /// The virtual channel frame count.
     pub count: u8,
     /// The master channel frame count.
-    pub master: u8,
+    pub mc_count: u8,
 }
 
 impl Seen {
@@ -85,7 +85,7 @@ fn seen_as(
             role: Role::Skipped,
             vc: 0,
             count: 0,
-            master: 0,
+            mc_count: 0,
         };
     };
     let vc = read.vc();
@@ -101,6 +101,6 @@ fn seen_as(
         role,
         vc,
         count: read.vc_count(),
-        master: read.mc_count(),
+        mc_count: read.mc_count(),
     }
 }

@@ -1,8 +1,8 @@
 //! The frames that fates take.
-use crate::fate::Fate;
-use crate::order::marks::Mark;
-use crate::order::numbers::Both;
-use crate::order::stretch::Stretch;
+use crate::marks::Mark;
+use crate::numbers::Both;
+use crate::stretch::Stretch;
+use sl_merge::Fate;
 use std::alloc::AllocError;
 
 /// The frames of a stretch that weren't taken yet.

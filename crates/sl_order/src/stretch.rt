@@ -1,9 +1,9 @@
 //! Frames of both recordings on one channel of which nothing but the counts shows the order.
-use crate::fate::Fate;
-use crate::order::marks::{Ends, Mark, NO_OUTAGE, Numbered, Outage, step, width};
-use crate::order::numbers::{Both, order_by_number};
-use crate::order::taken::{agrees_with_positions, have_common_idle, make_same};
-use crate::order::ways::{Way, ways};
+use crate::marks::{Ends, Mark, NO_OUTAGE, Numbered, Outage, step, width};
+use crate::numbers::{Both, order_by_number};
+use crate::taken::{agrees_with_positions, have_common_idle, make_same};
+use crate::ways::{Way, ways};
+use sl_merge::Fate;
 use std::alloc::{AllocError, Global};
 use std::mem;
 

@@ -64,12 +64,14 @@ Examples:
   sllink-frames --length 1115 --marker 1acffc1d --errors 2 --trail 160 pass.cadu > pass.tm
   sllink-frames --cltu uplink.cltu > uplink.tc
 
-What is written, frame after frame, is what sllink reads. One line of counts goes to the
-standard error.
+What is written, frame after frame, is what sllink reads. A line of counts goes to the standard
+error: frames written, markers of theirs with more wrong bits than --errors, octets that belong
+to no unit, code blocks refused, and octets of frames that a CLTU cuts.
 
 Exit status:
   0  all was read and written
-  1  the same, but a marker was wrong, a code block was refused, or octets went astray
+  1  the same, but a marker was wrong, a code block was refused, or octets were skipped after the
+     first unit of one length
   2  the command line or the file is refused; nothing was read or written
   3  reading or writing failed, or there was no memory
 ";

@@ -7,7 +7,6 @@ import contextlib
 import errno
 import os
 import resource
-import shlex
 import signal
 import stat
 import subprocess
@@ -137,11 +136,8 @@ def divided(words: List[str], valued: Dict[str, str]) -> Tuple[List[str], Dict[s
 
 
 def own_options(name: str, texts: List[str]) -> List[str]:
-    """The words of the options that an option of a tool has for one recording."""
-    try:
-        words = [word for text in texts for word in shlex.split(text)]
-    except ValueError as error:
-        raise Refused(f"{name}: {error}") from None
+    """The words of the options that an option of a tool has for one recording: its texts, split at spaces."""
+    words = [word for text in texts for word in text.split(" ") if word]
     for asked in filter(ASKS, words):
         raise Refused(f"{name}: {asked} is no option for a recording")
     return words

@@ -5,7 +5,7 @@ script, of at most 3 MB.
 
 A and B are recordings, and OPTION are options of sllink for both.
 
-    --a-options TEXT  Options of sllink for A alone, as words of a shell
+    --a-options TEXT  Options of sllink for A alone, in TEXT, which is split at spaces
     --b-options TEXT  Options of sllink for B alone
     -h, --help        Print help
     -V, --version     Print the version
@@ -25,8 +25,8 @@ frames a cell is several of them, divided by what they are; the fullest cell of 
 browser shows the lines of `show` and `check`, or their numbers, where the mouse is.
 
 Of two recordings it has the pictures one under the other, so that the first frame or packet that both have stands at
-one place, and the packets that each lacks and the other has: by APID, and in runs of the sequence count, as `vc 0 apid 100 counts 193..199 packets 7`, the first 200 of each.
-They are those that sllink-compare lists.
+one place, and the packets that each lacks and the other has: by APID, and in runs of the sequence count, as `vc 0 apid
+100 counts 193..199 packets 7`, the first 200 of each. They are those that sllink-compare lists.
 
 Status: 0 where a page is written, whatever it says; 2 with one line on the standard error, and no page or the beginning
 of one. Where whoever reads the output goes away, or SIGINT, SIGTERM or SIGHUP stops the tool, the status is 2 without a

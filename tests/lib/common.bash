@@ -1,4 +1,3 @@
-# shellcheck shell=bash
 # What the tests in bash share; each sources it first, with the words that it was given. It makes a folder that looks like
 # the top of the repository and goes there, and has the recordings and options that most of them want.
 #

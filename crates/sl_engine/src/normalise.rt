@@ -1,5 +1,5 @@
 //! The normal form of a recording.
-ghost use Rattle.std.specs.Prelude.{◌≡◌, ◌≢◌, [], ℕ, List, IfOk, IfErr, OnOk};
+ghost use Rattle.std.specs.Prelude.{◌≡◌, ◌≢◌, ℕ, List, IfOk, IfErr, OnOk};
 ghost use Rattle.sl_tcframe.specs.TcDelimited.{tc_frames_of};
 ghost use Rattle.sl_tmframe.specs.TmDelimited.{tm_frames_of};
 ghost use Rattle.sl_engine.specs.Kind.Delivery.{AddsByChannel, AreStored, MayRefuseStoreMemory, counts_in, packets_by_channel};

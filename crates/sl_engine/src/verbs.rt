@@ -1,5 +1,5 @@
 //! Listings of a recording, written while it is read.
-ghost use Rattle.std.specs.Prelude.{◌≡◌, ◌+◌, ◌-◌, ◌^◌, ◌<◌, ◌≤◌, ◌++◌, ◌∷◌, [], ℕ, List, length, IfOk, IfErr, OnErr, OnOk};
+ghost use Rattle.std.specs.Prelude.{◌≡◌, ◌+◌, ◌-◌, ◌^◌, ◌<◌, ◌≤◌, ◌++◌, ◌∷◌, [], length, IfOk, IfErr, OnErr, OnOk};
 ghost use Rattle.std.specs.List.{concat};
 ghost use Rattle.sl_engine.specs.Io.Output.{Adds, KeepsWriter};
 ghost use Rattle.sl_engine.specs.Io.Streams.{StopsWriting};

@@ -12,7 +12,7 @@
 //!
 //! A frame that ends with its field leaves the remainder 0, and no other frame does. So a frame is
 //! checked as a whole. Two octets leave 0 only if they are zeros, which needs no table.
-ghost use Rattle.std.specs.Prelude.{◌≡◌, ◌-◌, ◌<◌, ◌≤◌, [], ◌∷◌, length, take, drop};
+ghost use Rattle.std.specs.Prelude.{◌≡◌, ◌-◌, ◌<◌, ◌≤◌, [], ◌∷◌, length, take};
 ghost use Rattle.sl_fields.specs.Fecf.{fecf_of, fecf_is_good};
 ghost use Rattle.sl_fields.specs.FecfField.{fecf_octets, fecf_len};
 ghost use Rattle.sl_fields.specs.FecfRegister.{register_number, TakesIn};

@@ -127,11 +127,6 @@ filled (item ∷ later) = filled_more item.fate item.frame (stretches later) (fi
 first_is : (s : Stretch) (later : List Stretch) → judged None s.left_out s.others later ≡ are_fair (s ∷ later)
 first_is s later = refl
 
-pub from_the_first : (items : List Fated) → judge None 0 0 (stretches items) ≡ are_fair (stretches items)
-from_the_first items =
-    let f = filled items in
-    ap (judge None 0 0) f.is ∙ none_yet None f.first f.rest ∙ first_is f.first f.rest ∙ ap are_fair (sym f.is)
-
 -- ---- one step of a loop over the frames
 
 module _ (b : Bool) (items rest : List Fated) (item : Fated) (is : items ≡ item ∷ rest) (before : List ℕ) (tally : Tally) where
@@ -164,10 +159,3 @@ module _ (b : Bool) (items rest : List Fated) (item : Fated) (is : items ≡ ite
       ∙ sym (judged_after fails
       ∙ ap (λ r. r && judge_by (tally_after (turn_if b item).fate (count_of (turn_if b item).frame) tally)
       (stretches (without_repeats (before_after before (turn_if b item)) (from_side b rest)))) holds)
-
-  pub judged_false : is_repeat before (turn_if b item) ≡ false → admits tally (turn_if b item).fate (count_of (turn_if b item).frame) ≡ false
-      → judge_by tally (stretches (without_repeats before (from_side b items))) ≡ false
-  judged_false fails refused =
-      judged_after fails
-      ∙ ap (λ r. r && judge_by (tally_after (turn_if b item).fate (count_of (turn_if b item).frame) tally)
-      (stretches (without_repeats (before_after before (turn_if b item)) (from_side b rest)))) refused

@@ -1,5 +1,5 @@
 //! What a merge asks of the frames of one virtual channel.
-ghost use Rattle.std.specs.Prelude.{◌≡◌, ◌+◌, ◌<◌, ◌^◌, ℕ, [], None, false};
+ghost use Rattle.std.specs.Prelude.{◌≡◌, ◌+◌, ◌<◌, ◌^◌, [], None, false};
 ghost use Rattle.sl_merge.specs.Merge.{before_after, between_after, breaks, count_of, follows_last};
 ghost use Rattle.sl_merge.specs.Merge.{has_reasons, is_repeat, is_unbroken, keeps_first, last_after};
 ghost use Rattle.sl_merge.specs.Told.{from_side};

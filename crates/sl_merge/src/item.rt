@@ -1,9 +1,8 @@
 //! The frames of two recordings, each with its fate.
-ghost use Rattle.std.specs.Prelude.{◌≡◌, ◌<◌, ◌≤◌, ℕ, [], ◌∷◌, length, map, IfOk, IfSome, MatchOption, OnOk};
+ghost use Rattle.std.specs.Prelude.{◌≡◌, ◌<◌, ◌≤◌, [], ◌∷◌, length, map, IfOk, IfSome, MatchOption, OnOk};
 ghost use Rattle.sl_tmframe.specs.TmDelimited.{tm_frames_of};
-ghost use Rattle.sl_tmframe.specs.TmFrame.{tm_header_of};
 ghost use Rattle.sl_merge.specs.Fates.{fated, fits_both, taken_of};
-ghost use Rattle.sl_merge.specs.Merge.{count_of, is_left_out, payload, vc_of};
+ghost use Rattle.sl_merge.specs.Merge.{count_of, is_left_out, payload};
 ghost use Rattle.sl_merge.specs.Told.{Finds, FindsNone, has_none, seen_of, seen_on, turn_if};
 
 use crate::fate::Fate;

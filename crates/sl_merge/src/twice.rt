@@ -1,5 +1,5 @@
 //! Frames that would stand twice in a merge.
-ghost use Rattle.std.specs.Prelude.{◌≡◌, ◌+◌, ◌||◌, ℕ, List, IfOk, nat_le};
+ghost use Rattle.std.specs.Prelude.{◌≡◌, ◌+◌, ◌||◌, List, IfOk};
 ghost use Rattle.std.specs.List.{list_any};
 ghost use Rattle.sl_merge.specs.Fates.{Fated};
 ghost use Rattle.sl_merge.specs.Merge.{is_none_twice, stands_twice};

@@ -102,11 +102,6 @@ not_empty : {X : Type 0} (xs : List X) → 0 < length xs → (x : X) × (later :
 not_empty [] some = absurd (omega arith)
 not_empty (x ∷ later) some = (x, later, refl)
 
--- where a recording has more copies than the other one, the first of them waits
-pub first_waits : (packet : List ℕ) (own others : Packets) → copies packet others < copies packet own
-    → (head : Placed) × (later : List Placed) × (waiting packet own others ≡ head ∷ later)
-first_waits packet own others more = not_empty (waiting packet own others) ((waits-iff packet own others).1 more)
-
 -- and only there
 pub more_where_waits : (packet : List ℕ) (own others : Packets) (head : Placed) (later : List Placed)
     → waiting packet own others ≡ head ∷ later → copies packet others < copies packet own
@@ -160,14 +155,6 @@ copy_there packets n inside = record { inside = inside; is = refl; before = refl
 pub counterparts-sym : (packets others : Packets) (n m : ℕ) → AreCounterparts packets others n m → AreCounterparts others packets m n
 counterparts-sym packets others n m pair =
     record { inside = pair.other_inside; other_inside = pair.inside; same = sym pair.same; as_many = sym pair.as_many }
-
--- a packet has one counterpart at most
-pub one_counterpart : (packets others : Packets) (n m j : ℕ) → AreCounterparts packets others n m → AreCounterparts packets others n j → m ≡ j
-one_counterpart packets others n m j pair again =
-    let x = packet_at packets n in
-    let k = copies_before packets n in
-    let here = copy_there packets n pair.inside in
-    one_place x others k m j (counterpart_copy x packets others k n m here pair) (counterpart_copy x packets others k n j here again)
 
 -- ---- one packet more
 
@@ -257,18 +244,6 @@ counterparts-matched packet own others head later is n m =
             (subst (IsCopy packet (own ++ packet ∷ []) k) (sym new.0) (copy-last packet own))
             (subst (IsCopy packet others k) (sym new.1) there)
       ]),
-    )
-
--- the number of the first packet that waits is the only one that the new packet's counterpart has
-pub counterpart-head : (packet : List ℕ) (own others : Packets) (head : Placed) (later : List Placed) → waiting packet others own ≡ head ∷ later
-    → (n : ℕ) → AreCounterparts (own ++ packet ∷ []) others (length own) n ↔ (n ≡ head.number)
-counterpart-head packet own others head later is n =
-    let pairs = counterparts-matched packet own others head later is (length own) n in (
-      (λ pair. elim (pairs.0 pair) [
-        | inl old ↦ absurd (omega (arith, old.inside))
-        | inr new ↦ new.1
-      ]),
-      (λ same. pairs.1 (inr (refl, same))),
     )
 
 -- ---- one packet more among the others

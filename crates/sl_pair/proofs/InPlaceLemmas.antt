@@ -24,22 +24,3 @@ in_place-matched packet own others head later is =
         | inr new ↦ new.0 ∙ both.1 ∙ sym new.1
       ]),
     )
-
--- the same from the other side
-pub in_place-unmatched_other : (packet : List ℕ) (own others : Packets) → copies packet own ≤ copies packet others
-    → AreInPlace own (others ++ packet ∷ []) ↔ AreInPlace own others
-in_place-unmatched_other packet own others few =
-    let same = in_place-unmatched packet others own few in (
-      (λ all. in_place-sym others own (same.0 (in_place-sym own (others ++ packet ∷ []) all))),
-      (λ all. in_place-sym (others ++ packet ∷ []) own (same.1 (in_place-sym own others all))),
-    )
-
-pub in_place-matched_other : (packet : List ℕ) (own others : Packets) (head : Placed) (later : List Placed) → waiting packet own others ≡ head ∷ later
-    → AreInPlace own (others ++ packet ∷ []) ↔ (AreInPlace own others × (head.number ≡ length others))
-in_place-matched_other packet own others head later is =
-    let same = in_place-matched packet others own head later is in (
-      (λ all.
-          (let both = same.0 (in_place-sym own (others ++ packet ∷ []) all) in
-          (in_place-sym others own both.0, sym both.1))),
-      (λ both. in_place-sym (others ++ packet ∷ []) own (same.1 (in_place-sym own others both.0, sym both.1))),
-    )

@@ -1,7 +1,7 @@
 -- Packets with their numbers, and the copies of a packet that wait for a counterpart.
 use Rattle.std.proofs.Common.{◌≡◌, ◌↔◌, ℕ, zero, suc, ◌+◌, ◌-◌, ◌<◌, ◌≤◌, Bool, true, false, cond, List, [], ◌∷◌, ◌++◌, length, map, take, drop, get_or, leb, inl, inr, refl, sym, ◌∙◌, ap, ap₂, subst, append_assoc, append-nil, arith}
 use Rattle.std.specs.Prelude.{bytes_eq}
-use Rattle.std.specs.List.{Contains, filter, range_with_len}
+use Rattle.std.specs.List.{filter, range_with_len}
 use Rattle.std.specs.List.Sorted.{IsStrictlyIncreasing}
 use Rattle.std.proofs.lemmas.Bool.{cases_Bool, lt-leb}
 use Rattle.std.proofs.lemmas.List.{drop-append-le, drop-drop, drop_all, length-append, length-drop, length-take-le, map-append, map-id, take_all, take_more}
@@ -10,8 +10,8 @@ use Rattle.std.proofs.lemmas.List.Kept.{IsStrictlyIncreasing-filter}
 use Rattle.sl_pair.specs.OnlyIn.{Packets, copies, is_among, is_only_at, only_places, without_first}
 use Rattle.sl_pair.specs.Placed.{Placed, all_placed_after, left_in, only_placed, placed, placed_after}
 use Rattle.sl_pair.specs.Waiting.{same_packet, waiting}
-use Rattle.sl_pair.proofs.ListLemmas.{filter_range_more, kept_member, leb-alike, range_rises}
-use Rattle.sl_pair.proofs.CopiesLemmas.{adds, adds-other, adds-same, apart, copies-push, copies-without_first, none_among, same_or_other, same_self, some_among}
+use Rattle.sl_pair.proofs.ListLemmas.{filter_range_more, leb-alike, range_rises}
+use Rattle.sl_pair.proofs.CopiesLemmas.{adds, adds-other, adds-same, apart, copies-push, copies-without_first, none_among, same_or_other, some_among}
 
 -- ---- packets with their numbers
 
@@ -152,11 +152,6 @@ pub none_waits : (packet : List ℕ) (own others : Packets) → length (waiting 
 none_waits packet own others none = omega (arith, length-waiting packet own others)
 
 -- ---- what is left of a recording
-
-pub left-member : (own others : Packets) (one : Placed) → Contains (left_in own others) one ↔ Contains (waiting one.packet own others) one
-left-member own others one =
-    subst (λ l. Contains (left_in own others) one ↔ Contains l one) (waiting-is one.packet own others)
-    (kept_member (same_packet one.packet) one (same_self one.packet) (left_in own others))
 
 -- a packet at the end is left where the others have no more copies of it than stand before it
 only_placed-push : (one : Placed) (all : List Placed) (others : Packets)

@@ -1,5 +1,5 @@
 //! Two recordings, whose packets come in turns.
-ghost use Rattle.std.specs.Prelude.{◌≡◌, ◌↔◌, ◌<◌, ◌≤◌, ℕ, IfOk, IsTrue, OnOk, length};
+ghost use Rattle.std.specs.Prelude.{◌≡◌, ◌↔◌, ◌<◌, ℕ, IfOk, IsTrue, OnOk};
 ghost use Rattle.std.specs.Vec.{vec_len};
 ghost use Rattle.sl_packet.specs.Packet.{IsPacket};
 ghost use Rattle.sl_pair.specs.Pairing.{AreChannels, ByChannel, HaveSame, NothingIsLeft};

@@ -2,7 +2,6 @@
 use Rattle.std.proofs.Common.{◌≡◌, ℕ, zero, suc, ◌+◌, ◌-◌, ◌≤◌, ◌<◌, ◌⊎◌, inl, inr, Bool, true, false, List, [], ◌∷◌, ◌++◌, length}
 use Rattle.std.proofs.Common.{take, drop, refl, sym, ◌∙◌, ap, arith, append_assoc, append-nil, length-append, length-drop, take-append-drop}
 use Rattle.std.proofs.lemmas.List.{drop-append-le, drop-drop}
-use Rattle.std.proofs.Math.Seq.{drop-append_seam}
 use Rattle.std.specs.List.{concat}
 use Rattle.std.specs.Prelude.{replicate}
 use Rattle.sl_sync.specs.Held.{Holds}
@@ -22,19 +21,6 @@ pub record IsCutting (r : Rule) (ended : Bool) (from : Place) (window : List ℕ
   pub front : List ℕ
   pub halves : window ≡ front ++ rest
   pub cut : Cuts r ended from window place rest old new totals totals'
-
-pub cutting-none : (r : Rule) (ended : Bool) (from : Place) (window old : List ℕ) (totals : Totals)
-    → IsCutting r ended from window from window old old totals totals
-cutting-none r ended from window old totals = record {
-  front = [];
-  halves = refl;
-  cut = record {
-    parts = [];
-    all = λ more e. refl;
-    added = sym (append-nil old);
-    counted = λ earlier e. e ∙ ap totals_of (sym (append-nil earlier));
-  };
-}
 
 passed : (window front rest : List ℕ) (n : ℕ) → window ≡ front ++ rest → window ≡ (front ++ take n rest) ++ drop n rest
 passed window front rest n e =
@@ -173,15 +159,3 @@ module _ {r : Rule} {ended : Bool} {from place : Place} {window rest old new : L
         cut = cut-more (replicate count (stray place2)) (seen-all is seen inside b a) text
             (λ earlier q. totals-stray earlier place2 count q n);
       })
-
-  -- what is left is the end of the window
-  rest-is : drop (length window - length rest) window ≡ rest
-  rest-is =
-      let n : length window - length rest ≡ length s.front = omega (arith, ap length s.halves, length-append s.front rest) in
-      rw n (ap (λ (x : List ℕ). drop (length s.front) x) s.halves ∙ drop-append_seam s.front rest)
-
-  pub cutting-done : Cuts r ended from window place (drop (length window - length rest) window) old new totals totals'
-  cutting-done = rw rest-is s.cut
-
-  pub rest-inside : length rest ≤ length window
-  rest-inside = omega (arith, ap length s.halves, length-append s.front rest)

@@ -1,6 +1,6 @@
 //! The units of a shape of one length.
 ghost use Rattle.std.specs.Prelude.{◌≡◌, ◌≤◌, drop, length, take};
-ghost use Rattle.sl_sync.specs.Cadu.{before, cadu_begins, cadu_behind, cadu_rule, needed, is_next};
+ghost use Rattle.sl_sync.specs.Cadu.{before, cadu_begins, cadu_rule, needed, is_next};
 
 use crate::cadu::CaduShape;
 use crate::ends::behind;

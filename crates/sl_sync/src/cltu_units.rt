@@ -2,7 +2,7 @@
 ghost use Rattle.std.specs.Prelude.{◌≡◌, ◌≤◌, ◌<◌, ◌-◌, ◌++◌, ℕ, false, length, take, drop, IfOk, OnOk};
 ghost use Rattle.std.specs.List.{concat};
 ghost use Rattle.sl_sync.specs.Cltu.{block_count, cltu_data, cltu_rule, cut_octets, frames_in};
-ghost use Rattle.sl_sync.specs.Cltu.{has_sequence, is_refused, start_sequence, tail_sequence};
+ghost use Rattle.sl_sync.specs.Cltu.{has_sequence, is_refused, start_sequence};
 
 use crate::cltu::CltuShape;
 use crate::code_block::{is_block, push_blocks};

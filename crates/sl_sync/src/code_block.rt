@@ -1,5 +1,5 @@
 //! The code blocks of CLTUs.
-ghost use Rattle.std.specs.Prelude.{◌≡◌, ◌-◌, true, false, ◌<◌, ◌≤◌, ◌++◌, length, IfOk, OnOk};
+ghost use Rattle.std.specs.Prelude.{◌≡◌, ◌-◌, true, false, ◌<◌, ◌≤◌, ◌++◌, IfOk, OnOk};
 ghost use Rattle.sl_sync.specs.CodeBlock.{blocks, data_of, is_block, register_after};
 ghost use Rattle.sl_sync.specs.CodeBlock.{with_bit, with_bits};
 

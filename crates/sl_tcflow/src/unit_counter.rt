@@ -8,7 +8,6 @@ ghost use Rattle.sl_tcflow.specs.Farms.{verdict_on};
 ghost use Rattle.sl_tcflow.specs.Incomplete.{incomplete_of};
 ghost use Rattle.sl_tcflow.specs.Receiver.{ended_by, unit_map};
 ghost use Rattle.sl_tcflow.specs.Reception.{segments_of};
-ghost use Rattle.sl_tcflow.specs.ReceptionParameters.{ReceptionParameters};
 ghost use Rattle.sl_tcflow.specs.Recording.{channel_at};
 ghost use Rattle.sl_tcflow.specs.UnitCount.{ReportsPackets};
 ghost use Rattle.sl_tcflow.specs.UnitCounter.{AreCounted, ForCounted, ForCounts, HasCounted};

@@ -1,5 +1,5 @@
 //! The managed format of TC transfer frames.
-ghost use Rattle.std.specs.Prelude.{◌≡◌, ◌+◌, ◌≤◌, length};
+ghost use Rattle.std.specs.Prelude.{◌≡◌, ◌+◌, ◌≤◌};
 ghost use Rattle.sl_tcframe.specs.AdFrame.{plain_room_of, segment_room_of};
 ghost use Rattle.sl_tcframe.specs.TcFrame.{is_cut, least_of};
 

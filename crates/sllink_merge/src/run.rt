@@ -1,5 +1,5 @@
 //! A run over recordings and a writer.
-ghost use Rattle.std.specs.Prelude.{◌≡◌, ◌≢◌, ◌<◌, ◌∷◌, IfErr, OnOk, length};
+ghost use Rattle.std.specs.Prelude.{◌≡◌, ◌≢◌, ◌<◌, IfErr, OnOk, length};
 ghost use Rattle.sl_io.specs.Streams.{StopsWriting, WritesText};
 ghost use Rattle.sl_io.specs.declared.fault.LinkFault.{LinkFault};
 ghost use Rattle.sllink_merge.specs.Run.{HasEnded, HasStopped, refused_status, status_of};

@@ -5,7 +5,7 @@ use super::cop::window;
 use super::packets::delivered_of;
 use super::rows::Stop;
 use sl_cop::{Starts, Verdict};
-use sl_packet::{Delivered, FlowFault, PacketSink};
+use sl_packet::{FlowFault, PacketSink};
 use sl_tcflow::{Farms, Receiver, TcStep, UnitCounter, fits_tc, reframe_tc};
 use sl_tcframe::{TcFrame, TcShape, TcSkip, VcSet};
 use std::alloc::Global;

@@ -76,10 +76,6 @@ module _ {W : Type 0} {contents : W → Option (List ℕ)} (text : List Placed �
     writing_stops line behind split stops =
         rw (s.parts, split, ← append_assoc s.done line (text behind)) (stops_first start.lines (s.done ++ line) (text behind) (stops_then line s.adds stops))
 
-    -- all of it
-    pub writing_done : text later ≡ [] → Adds contents start (text left) old
-    writing_done none = rw (s.parts, none, append-nil) s.adds
-
 -- ---- channel by channel
 
 -- the texts of the channels before this one were added

@@ -1,5 +1,5 @@
 -- The words of lines of `check`, and how many lines have each of them.
-use Rattle.std.proofs.Common.{◌≡◌, ℕ, suc, ◌+◌, ◌^◌, ◌<◌, ◌≤◌, Bool, true, false, codes, decimal, List, [], ◌∷◌, ◌++◌, length, map, Option, None, Some, refl, sym, ◌∙◌, ap, arith, append_assoc, append-nil}
+use Rattle.std.proofs.Common.{◌≡◌, ℕ, suc, ◌+◌, ◌^◌, ◌<◌, ◌≤◌, Bool, true, false, codes, decimal, List, [], ◌∷◌, ◌++◌, length, map, Option, None, Some, refl, sym, ◌∙◌, ap, arith, append_assoc}
 use Rattle.std.specs.Prelude.{is_some, nat_lt}
 use Rattle.std.specs.Str.Parse.{AllDigits, digits_value}
 use Rattle.std.proofs.Common.{drop, inl, inr}
@@ -117,9 +117,6 @@ module _ (offset : ℕ) (small : offset < 2 ^ 64) where
       let e : discarded_lines offset found ≡ discarded_anomaly offset found found.ns = rw (is, out) refl in
       rw (e, ← is) (discarded_of found found.ns)
 
-  pub none_discarded : (found : TcFinding) → discards found.verdict ≡ false → discarded_lines offset found ≡ []
-  none_discarded found kept = rw kept refl
-
   pub one_discarded : (found : TcFinding) → length (discarded_lines offset found) ≤ 1
   one_discarded found = grind arith
 
@@ -200,9 +197,6 @@ plus_is Tail c = simp add-zero refl
 -- the lines of a word
 pub one_more : (word : CheckWord) (lines more : List (List ℕ)) → IsOneLine (word_text word) more true → word_counts (lines ++ more) ≡ with_one word (word_counts lines)
 one_more word lines more h = rw (h.1, counts_snoc lines h.0, h.2) (plus_is word (word_counts lines))
-
-pub none_more : (word : List ℕ) (lines more : List (List ℕ)) → IsOneLine word more false → word_counts (lines ++ more) ≡ word_counts lines
-none_more word lines more h = rw (h, append-nil lines) refl
 
 -- a word has no more lines than there are
 pub few_with : (word : List ℕ) (lines : List (List ℕ)) → lines_with word lines ≤ length lines

@@ -1,5 +1,5 @@
 -- The packets of a listing: on each channel those that a recording delivers there.
-use Rattle.std.proofs.Common.{◌≡◌, ℕ, ◌≤◌, ◌==◌, true, false, List, [], ◌∷◌, ◌++◌, map, inl, inr, refl, sym, ◌∙◌, ap, arith, append_assoc, append-nil, Result}
+use Rattle.std.proofs.Common.{◌≡◌, ℕ, ◌≤◌, ◌==◌, true, false, List, [], ◌∷◌, ◌++◌, map, inl, inr, refl, sym, ◌∙◌, ap, arith, append_assoc, append-nil}
 use Rattle.std.specs.List.{concat, slice_index_or}
 use Rattle.std.proofs.lemmas.Bool.Decides.{eqb_tells, leb_tells, nat_tests}
 use Rattle.std.proofs.lemmas.List.{map-append, get_or_past}
@@ -8,14 +8,7 @@ use Rattle.std.proofs.lemmas.List.Folds.{concat-append}
 use Rattle.std.proofs.lemmas.List.FromFn.{get_or-map-range_with_len, length-map-range_with_len}
 use Rattle.sl_packet.specs.Packets.{without_idle}
 use Rattle.sl_packet.proofs.WithoutIdleLemmas.{without_idle-append}
-use Rattle.sl_tmframe.specs.declared.tm_frame.TmSkip.{TmSkip}
-use Rattle.sl_tmframe.specs.TmFrame.{TmView}
-use Rattle.sl_tcframe.specs.declared.tc_frame.TcSkip.{TcSkip}
-use Rattle.sl_tcframe.specs.TcFrame.{TcView}
-use Rattle.sl_tmflow.specs.VirtualChannel.{views_of}
 use Rattle.sl_tcflow.specs.AcceptedUnit as accepted
-use Rattle.sl_tcflow.specs.ReceptionParameters.{ReceptionParameters}
-use Rattle.sl_tcflow.proofs.lemmas.Reception.Channel.{small_map}
 use Rattle.sl_engine.specs.declared.verbs.packets.printer.ChannelName.{ChannelName}
 use Rattle.sl_engine.specs.Kind.Delivery.{AddsByChannel, Kind, delivered_packets, packets_by_channel}
 use Rattle.sl_link.specs.Laws.Listed.{ListedPacket, ListsPackets, line_of, packets_listed_on, TmPacketsAreListed, TcPacketsAreListed}
@@ -24,11 +17,10 @@ use Rattle.sl_engine.specs.Verbs.Listing.{lines_from, listing_text}
 use Rattle.sl_engine.specs.declared.verbs.packets.printer.ChannelName.TheVariants.{VirtualChannel, Map}
 use Rattle.sl_engine.specs.Kind.Tc as tc_deliver
 use Rattle.sl_engine.specs.Kind.Tm as tm_deliver
-use Rattle.sl_engine.specs.Kind.Tc.{unit_channel_of, tc_kind}
-use Rattle.sl_engine.specs.Kind.Tm.{tm_kind, vc_of}
-use Rattle.sl_engine.specs.Link.Managed.{Parameters, reception_of, tc_format, tm_format}
-use Rattle.sl_engine.specs.Verbs.Packets.Tc.{packets_tc_lines, tc_packet_lines_after}
-use Rattle.sl_engine.specs.Verbs.Packets.Tm.{packets_tm_lines, tm_packet_lines_after}
+use Rattle.sl_engine.specs.Kind.Tc.{tc_kind}
+use Rattle.sl_engine.specs.Kind.Tm.{tm_kind}
+use Rattle.sl_engine.specs.Verbs.Packets.Tc.{packets_tc_lines}
+use Rattle.sl_engine.specs.Verbs.Packets.Tm.{packets_tm_lines}
 use Rattle.sl_engine.specs.Verbs.Packets.Line.{packets_listing}
 use Rattle.sl_engine.proofs.lemmas.Kind.Tc.{tc_adds_by_channel}
 use Rattle.sl_engine.proofs.lemmas.Kind.Tm.{tm_adds_by_channel}

@@ -12,7 +12,7 @@ use Rattle.sl_tcframe.specs.VcSet.{has_vc}
 use Rattle.sl_tcflow.specs.AcceptedUnit.{event_of, farm_after}
 use Rattle.sl_tcflow.specs.Farms.{HaveStepped, farm_of, verdict_on}
 use Rattle.sl_tcflow.specs.Receiver.{ForIncomplete, ForProcessed, HasProcessed, ReceiverState}
-use Rattle.sl_tcflow.specs.ReceptionParameters.{ReceptionParameters, is_plain, initial_vr}
+use Rattle.sl_tcflow.specs.ReceptionParameters.{ReceptionParameters, is_plain}
 use Rattle.sl_tcflow.specs.SeriesStore.{IncompleteSeries}
 
 -- ---- FARM-1 of a channel
@@ -20,10 +20,6 @@ use Rattle.sl_tcflow.specs.SeriesStore.{IncompleteSeries}
 pub farm_after-push : (w vr : ℕ) (channel : List TcView) (next : TcView)
     → farm_after w vr (channel ++ next ∷ []) ≡ (farm_step w (farm_after w vr channel) (event_of next.content)).1
 farm_after-push w vr channel next = state_more (λ (view : TcView). event_of view.content) w (farm_start vr) channel next
-
--- FARM-1 of a virtual channel after the frames of that channel
-abbrev farm_with : ReceptionParameters → ℕ → List TcView → FarmView
-farm_with r vc channel = record { window = r.window; state = farm_after r.window (initial_vr r vc) channel }
 
 -- FARM-1 of a virtual channel after one more frame of this channel
 pub farm_next : (r : ReceptionParameters) (views : List TcView) (next : TcView)

@@ -1,6 +1,6 @@
 -- The lines of the anomalies of TM frames are few: four at most for each frame, and after the last one, for the packets that
 -- are incomplete, no more than frames.
-use Rattle.std.proofs.Common.{◌≡◌, ◌≢◌, nat_lt, ℕ, ◌<◌, ◌≤◌, List, [], ◌∷◌, length, map, refl, arith, append-nil, length-append, codes, Option, None, Some, Result}
+use Rattle.std.proofs.Common.{◌≡◌, ◌≢◌, nat_lt, ℕ, ◌<◌, ◌≤◌, List, [], ◌∷◌, length, map, refl, arith, append-nil, length-append, codes, None, Some, Result}
 use Rattle.std.specs.Prelude.{flat_map}
 use Rattle.std.specs.List.{AllByRecursion, concat}
 use Rattle.std.proofs.lemmas.Bool.{lt-ltb}
@@ -16,14 +16,10 @@ use Rattle.sl_engine.specs.Kind.Tm.{TmFinding, as_read, tm_found, tm_kind, vc_of
 use Rattle.sl_engine.specs.Link.Managed.{Parameters, tm_format}
 use Rattle.sl_engine.specs.Framing.Tm.{is_tm_frame}
 use Rattle.sl_engine.specs.Verbs.Check.Lines.{event_anomaly, event_line}
-use Rattle.sl_engine.specs.Verbs.Check.Tm.{gap_anomaly, tm_anomaly_lines, tm_open}
+use Rattle.sl_engine.specs.Verbs.Check.Tm.{tm_anomaly_lines, tm_open}
 use Rattle.sl_engine.proofs.lemmas.Kind.Delivery.{views_next}
 use Rattle.sl_engine.proofs.lemmas.Kind.Tm.{tm_adds_by_channel}
-use Rattle.sl_engine.proofs.lemmas.Verbs.Check.Lines.{one_event}
 use Rattle.sl_engine.proofs.lemmas.Verbs.Check.Lines as few
-
-one_gap : (offset : ℕ) (found : TmFinding) (gap : Option ℕ) → length (gap_anomaly offset found gap) ≤ 1
-one_gap offset found gap = grind arith
 
 four_lines : (offset : ℕ) (found : Result TmFinding TmSkip) → length (tm_anomaly_lines offset found) ≤ 4
 four_lines offset found = grind (arith, length-append)

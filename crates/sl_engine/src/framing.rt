@@ -89,11 +89,11 @@ pub fn read_chunk<S: FrameSink, R: Read>(
     Ok(taken)
 }
 
-/// Hands over the frames that a chunk completes, and then pauses. A clause holds whatever came
-/// before: for each value `start` with which the sink may have begun, and for all octets that may
-/// have come, `octets`, those of the chunk included. The last argument of `HasCutFrames` is the
-/// part of `octets` that the framer hasn't seen yet: before the call the whole chunk, and at a
-/// fault what is `left` of it.
+/// Hands over the frames that a chunk completes, and then pauses. Each clause holds for every past:
+/// every value `start` that the sink may have begun with, and all `octets` that may have been read,
+/// those of the chunk included. The last argument of `HasCutFrames` is the part of `octets` that
+/// the framer hasn't seen yet: before the call the whole chunk, and at a fault what is `left` of
+/// it.
 pub fn cut_chunk<S: FrameSink>(
     managed: &Managed,
     framer: &mut S::Framer,

@@ -49,14 +49,16 @@ pub fn merged_recording(
 /// - Each frame that stands is one that is read.
 /// - On each virtual channel no run of a recording is broken: where the count of a frame that
 ///   stands follows that of the recording's frame before it, no frame of the other recording alone
-///   stands between the two. So an outage of exactly 256 frames, or a multiple, during which the
-///   other recording has frames is refused: the counts tell it from none only by these frames.
+///   stands between the two. So frames of the other recording during an outage of exactly 256
+///   frames, or a multiple, can't stand: the counts don't tell the outage from none.
 /// - A frame that is left out is skipped, or it is the frame before it of its recording and channel
 ///   once more, octet for octet. Else it lies between two frames of both, and of this stretch no
 ///   more frames of the recording are left out than frames of the other one alone stand there, or
-///   at most eight where the count of the second frame of both follows that of the first.
+///   at most eight where the count of the second frame of both follows that of the first. So the
+///   same frame of both may be left out of each.
 /// - No octets stand on a channel both as a frame of the first recording alone and as one of the
-///   second alone, but where their payload comes twice in a recording, as that of idle frames.
+///   second alone, but where their payload comes twice among the frames of a recording that stand,
+///   as that of idle frames.
 ///
 /// So one recording behind the other is no merge where both have a frame, octet for octet, whose
 /// payload comes once in each; where all payloads come twice, as those of idle frames, it may be

@@ -92,9 +92,8 @@ impl<'d> TmForm<'d> {
     /// The normal form of the packets on channels 0 to 7 of `delivered`, which are the virtual
     /// channels, in frames of this format. All octets of the form are still to come. `spacecraft`,
     /// the spacecraft identifier of all frames, is 0 to 1023. Packets on channels from 8 on are
-    /// left out, as the clauses say; a caller that must not lose any tests first, by
-    /// [`fits_tm`](sl_packet::Delivered::fits_tm), that there are none. The `TmForm` holds no
-    /// memory yet.
+    /// left out, as the clauses say: call [`fits_tm`](sl_packet::Delivered::fits_tm) first to be
+    /// sure that none are lost. The `TmForm` holds no memory yet.
     pub fn new(
         alloc: Global,
         shape: &TmShape,

@@ -48,8 +48,8 @@ pub trait Form {
         ensures capacity { vec_capacity text.old ≤ vec_capacity text.new };
 
     /// Takes the memory that the form wants for itself. The text has room for a piece, and keeps
-    /// its octets. It is an argument because `TmForm::reserve`, which a TM form calls, sees to room
-    /// in the text as well; here the text has that room already.
+    /// its octets. Only TM needs this argument: `TmForm::reserve` reserves room in the text too,
+    /// which is there already.
     fn reserve(&mut self, text: &mut Vec<u8>) -> Result<(), LinkFault>
         requires room { vec_len text.old + piece_size ≤ vec_capacity text.old }
         ensures ready { OnOk result (ready self.new) }

@@ -1,7 +1,8 @@
-//! Files that can be read, and how their names stand in a line.
+//! Files that can be read, and how their names, and why words are refused, stand in a line.
 #![tactic(auto)]
 
 use std::alloc::{AllocError, Global};
+use std::fmt::Display;
 use std::fs::{File, metadata};
 use std::io;
 use std::io::{ErrorKind, Read};
@@ -41,7 +42,7 @@ impl<'a> From<io::Error> for Unreadable<'a> {
 
 // Characters that can't be printed, in ranges: control characters, white space but the space,
 // characters of format, for private use, and those that are none.
-static UNPRINTABLE: [(char, char); 34] = [
+static UNPRINTABLE: [(char, char); 29] = [
     ('\0', '\x1f'),
     ('\x7f', '\u{a0}'),
     ('\u{ad}', '\u{ad}'),
@@ -69,13 +70,8 @@ static UNPRINTABLE: [(char, char); 34] = [
     ('\u{1d173}', '\u{1d17a}'),
     ('\u{1fffe}', '\u{1ffff}'),
     ('\u{2fffe}', '\u{2ffff}'),
-    ('\u{3fffe}', '\u{3ffff}'),
-    ('\u{4fffe}', '\u{4ffff}'),
-    ('\u{5fffe}', '\u{5ffff}'),
-    ('\u{6fffe}', '\u{6ffff}'),
-    ('\u{7fffe}', '\u{7ffff}'),
-    ('\u{8fffe}', '\u{8ffff}'),
-    ('\u{9fffe}', '\u{10ffff}'),
+    ('\u{323b0}', '\u{e00ff}'),
+    ('\u{e01f0}', '\u{10ffff}'),
 ];
 
 /// Opens a file of this name that has a size; `shown` is the name as it stands in a line.
@@ -129,6 +125,34 @@ fn push_shown(text: &mut String, letter: char) -> Result<(), AllocError> {
         '\u{100}'..='\u{ffff}' => write!(text, "\\u{code:04x}"),
         _ => write!(text, "\\U{code:08x}"),
     }
+}
+
+/// Why words are refused, in one line: without their usage and the hint at the help, which follow in
+/// what clap says.
+pub fn one_line(alloc: Global, refusal: &impl Display) -> Result<String, AllocError> {
+    let mut text = String::new(alloc);
+    write!(text, "{refusal}")?;
+    let mut line = String::new(alloc);
+    let mut after_gap = false;
+    for part in text.as_str().lines() {
+        let part = part.trim();
+        if part.starts_with("Usage:") || part.starts_with("For more information") {
+            break;
+        }
+        if part.is_empty() {
+            after_gap = true;
+            continue;
+        }
+        if after_gap {
+            line.push_str(";")?;
+            after_gap = false;
+        }
+        if !line.is_empty() {
+            line.push_str(" ")?;
+        }
+        line.push_str(part)?;
+    }
+    Ok(line)
 }
 
 fn is_printable(letter: char) -> bool {

@@ -13,7 +13,7 @@ mod totals;
 use clap::error::ErrorKind as WordsKind;
 use command_line::{Asked, Refusal, parse};
 use run::{FAULT, REFUSED, SAME, report_fault, run};
-use sl_files::{open_file, shown};
+use sl_files::{one_line, open_file, shown};
 use sl_link::{Counted, LinkFault};
 use std::fs::File;
 use std::hash::RandomState;
@@ -98,10 +98,13 @@ fn report_refusal(rt: &HostRuntime, refusal: &Refusal) -> u8 {
         WordsKind::DisplayHelp => answer(write!(rt.stdout(), "{error}"), rt),
         WordsKind::DisplayVersion => answer(rt.stdout().write_all(VERSION_LINE.as_bytes()), rt),
         WordsKind::OutOfMemory => report_fault(LinkFault::Memory, &mut Counted::new(rt.stderr())),
-        _ => {
-            let _ = write!(rt.stderr(), "{error}");
-            REFUSED
-        }
+        _ => match one_line(rt.alloc(), error) {
+            Ok(line) => {
+                let _ = writeln!(rt.stderr(), "{line}");
+                REFUSED
+            }
+            Err(_) => report_fault(LinkFault::Memory, &mut Counted::new(rt.stderr())),
+        },
     }
 }
 

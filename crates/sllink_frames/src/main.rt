@@ -10,7 +10,7 @@ mod run;
 use clap::error::ErrorKind as WordsKind;
 use command_line::{Asked, Shape, parse};
 use run::{FAULT, REFUSED, SUCCESS, report_fault, run};
-use sl_files::shown;
+use sl_files::{one_line, shown};
 use sl_io::{Counted, LinkFault};
 use std::fs::File;
 use std::io::{ErrorKind, Write};
@@ -104,10 +104,13 @@ fn report_refusal(rt: &HostRuntime, refusal: &clap::Error) -> u8 {
         WordsKind::DisplayHelp => answer(write!(rt.stdout(), "{refusal}"), rt),
         WordsKind::DisplayVersion => answer(rt.stdout().write_all(VERSION_LINE.as_bytes()), rt),
         WordsKind::OutOfMemory => report_fault(LinkFault::Memory, &mut rt.stderr()),
-        _ => {
-            let _ = write!(rt.stderr(), "{refusal}");
-            REFUSED
-        }
+        _ => match one_line(rt.alloc(), refusal) {
+            Ok(line) => {
+                let _ = writeln!(rt.stderr(), "{line}");
+                REFUSED
+            }
+            Err(_) => report_fault(LinkFault::Memory, &mut rt.stderr()),
+        },
     }
 }
 

@@ -18,7 +18,7 @@ use command_line::{Asked, Link, Refusal, parse};
 use merge::Recording;
 use reading::read_whole;
 use run::{FAULT, REFUSED, SUCCESS, report_fault, run};
-use sl_files::{open_file, shown};
+use sl_files::{one_line, open_file, shown};
 use sl_link::{Counted, LinkFault};
 use std::alloc::{AllocError, Global};
 use std::fs::File;
@@ -153,10 +153,13 @@ fn report_refusal(rt: &HostRuntime, refusal: &Refusal) -> u8 {
         WordsKind::DisplayHelp => answer(write!(rt.stdout(), "{error}"), rt),
         WordsKind::DisplayVersion => answer(rt.stdout().write_all(VERSION_LINE.as_bytes()), rt),
         WordsKind::OutOfMemory => report_fault(LinkFault::Memory, &mut rt.stderr()),
-        _ => {
-            let _ = write!(rt.stderr(), "{error}");
-            REFUSED
-        }
+        _ => match one_line(rt.alloc(), error) {
+            Ok(line) => {
+                let _ = writeln!(rt.stderr(), "{line}");
+                REFUSED
+            }
+            Err(_) => report_fault(LinkFault::Memory, &mut rt.stderr()),
+        },
     }
 }
 

@@ -9,6 +9,7 @@ use crate::merge::{Merge, Recording, Refused, Unmerged, merge_all};
 use crate::telling::tell_turns;
 use sl_io::{flush, write_text};
 use sl_link::{Counted, LinkFault};
+use sl_order::Unordered;
 use std::alloc::Global;
 use std::hash::BuildHasher;
 use std::io::Write;
@@ -115,7 +116,14 @@ fn report_refused<E: Write>(refused: &Refused<'_>, errors: &mut E) -> u8
     if *why == Unmerged::Memory {
         return report_fault(LinkFault::Memory, errors);
     }
-    let _ = writeln!(errors, "sllink-merge: {first} and {second}: {why}");
+    let _ = if *why == Unmerged::Unordered(Unordered::Apart) {
+        writeln!(
+            errors,
+            "sllink-merge: {first} and {second}: {why}; sllink-identify {second} says what it is"
+        )
+    } else {
+        writeln!(errors, "sllink-merge: {first} and {second}: {why}")
+    };
     REFUSED
 }
 

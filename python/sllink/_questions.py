@@ -1,5 +1,5 @@
-"""The questions about the options of a recording, which a page and the module's command ask: by its totals, and by its
-lines of `check`."""
+"""The questions about the options of a recording: what a page asks, by totals and lines of `check`, and what the module's
+command asks where no packet is delivered."""
 
 from typing import TYPE_CHECKING, List
 

@@ -86,7 +86,7 @@ def about(frames: Sequence[bytes], whose: Callable[[bytes], int], main: Sequence
     """The lines on frames, of this number at least: of which spacecraft they are, and their error control fields."""
     numbers, known = counter(map(whose, frames)), {True: "yes", False: "no", None: "unknown"}[fecf]
     rest = len(frames) - sum(numbers[craft] for craft in main)
-    return [f"frames {len(frames)}" + f" looked at, of about {number}" * (number > len(frames)),
+    return [f"frames {len(frames)}" + f" read, of about {number}" * (number > len(frames)),
             *(f"spacecraft {craft} frames {numbers[craft]}" for craft in main), *[f"other headers {rest}"] * (rest > 0),
             f"error control field {known} right {right_fields(frames)}"]
 

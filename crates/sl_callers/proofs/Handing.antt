@@ -1,6 +1,6 @@
 -- Packets that an extractor or a receiver hands to a store, frame by frame: the lists of the store, and what is still to
 -- come; and why it stops.
-use Rattle.std.proofs.Common.{◌≡◌, ◌≢◌, ◌⊎◌, ℕ, ◌<◌, ◌≤◌, ◌==◌, if◌then◌else◌, List, [], ◌∷◌, ◌++◌, length, inl, inr, refl, sym, ◌∙◌, ap, arith, append_assoc, append-nil}
+use Rattle.std.proofs.Common.{◌≡◌, ◌≢◌, ◌⊎◌, ℕ, ◌<◌, ◌≤◌, ◌==◌, if◌then◌else◌, List, [], ◌∷◌, ◌++◌, length, inl, inr, refl, sym, ◌∙◌, ap, arith, append_assoc, append-nil, length-append}
 use Rattle.std.specs.List.{slice_index_or}
 use Rattle.std.proofs.lemmas.Bool.Decides.{eqb_tells}
 use Rattle.std.proofs.lemmas.List.{length-set, get_or-set_same, get_or-set_other}
@@ -19,6 +19,7 @@ use Rattle.sl_tcflow.specs.ReceptionParameters.{ReceptionParameters, is_plain}
 use Rattle.sl_tcflow.proofs.lemmas.Reception.Channel.{small_map}
 use Rattle.sl_tmframe.specs.TmFrame.{TmView}
 use Rattle.sl_tmflow.specs.Extractor as tm
+use Rattle.sl_callers.specs.Frames.{HoldsAtOne}
 
 abbrev list_of : List (List (List ℕ)) → ℕ → List (List ℕ)
 list_of lists channel = slice_index_or lists channel []
@@ -65,6 +66,7 @@ module _ {View : Type 0} (channel_of : View → ℕ) (ended : List View → View
     pub record IsHanding (all left : List View) (state : State) (lists : List (List (List ℕ))) : Type 0 where
       pub seen : List View
       pub processed : has_processed state seen
+      pub in_order : seen ++ left ≡ all
       pub size : length lists ≡ channel_count
       pub each : (channel : ℕ) → list_of lists channel ++ handed channel seen left ≡ handed channel [] all
 
@@ -73,6 +75,7 @@ module _ {View : Type 0} (channel_of : View → ℕ) (ended : List View → View
         record {
           seen = [];
           processed = processed;
+          in_order = refl;
           size = ap length none ∙ length-empty_lists;
           each = λ channel. ap (λ l. list_of l channel ++ handed channel [] all) none ∙ ap (λ l. l ++ handed channel [] all) (list_at-empty_lists channel);
         }
@@ -92,6 +95,7 @@ module _ {View : Type 0} (channel_of : View → ℕ) (ended : List View → View
         record {
           seen = h.seen ++ view ∷ [];
           processed = processed h.seen h.processed;
+          in_order = append_assoc h.seen (view ∷ []) later ∙ ap (λ l. h.seen ++ l) (sym is) ∙ h.in_order;
           size = t.size ∙ h.size;
           each = λ channel.
               elim (eqb_tells own channel) [
@@ -104,6 +108,12 @@ module _ {View : Type 0} (channel_of : View → ℕ) (ended : List View → View
                     ∙ ap (λ b. list_of old.lists channel ++ ((if b then packets else []) ++ after channel)) (sym same) ∙ next channel
               ];
         }
+
+    -- the next frame is one of those that were given
+    pub holds_next : {holds : List View → View → Type 0} (all left later : List View) (view : View) (state : State) (lists : List (List (List ℕ))) → left ≡ view ∷ later
+        → (h : IsHanding all left state lists) → holds h.seen view → HoldsAtOne holds all
+    holds_next all left later view state lists is h at =
+        record { before = h.seen; frame = view; later = later; in_order = sym h.in_order ∙ ap (λ l. h.seen ++ l) is; at_frame = at }
 
     pub all_handed : HandsEachOver → (all left : List View) (state : State) (lists : List (List (List ℕ))) → left ≡ [] → IsHanding all left state lists
         → (channel : ℕ) → list_of lists channel ≡ handed channel [] all
@@ -123,6 +133,14 @@ pub stopped_for_memory : (old new : PacketLists) (channel : ℕ) (packets : List
 stopped_for_memory old new channel packets Memory stopped = inl refl
 stopped_for_memory old new channel packets (Sink fault) stopped = inr (ap Sink stopped.0.fails.0)
 stopped_for_memory old new channel packets Failed stopped = elim stopped [ ]
+
+-- and where the store refused one, there was a packet to hand over
+pub stopped_with_packet : (old new : PacketLists) (channel : ℕ) (packets : List (List ℕ)) (flow : FlowFault) → flow ≡ Sink sink.Memory
+    → IsStopped AddsPacket RefusesForMemory (λ (d : PacketLists). d.failures) old channel packets flow new → packets ≢ []
+stopped_with_packet old new channel packets flow is stopped none =
+    let s = (rw is at stopped).0 in
+    let empty : s.accepted ++ s.refused ∷ s.later ≡ [] = sym s.in_order ∙ none in
+    absurd (omega (arith, ap length empty, length-append s.accepted (s.refused ∷ s.later)))
 
 -- ---- an extractor, and a receiver under parameters `r`
 

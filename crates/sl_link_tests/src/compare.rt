@@ -1,10 +1,13 @@
 //! Two recordings compared: the answer, what is left of each, and faults.
+use super::support::engines::Kind;
 use super::support::recordings::{
-    AROUND_IDLE, DAMAGED, DIVIDED, FIRST, FOREIGN, IN_WINDOW, MIXED, SECOND, SKIPPED, TEN_FILLED,
-    THROUGH, WHOLE, WHOLE_BD, WITH_FECF, WITH_GAP, octets,
+    AROUND_IDLE, BEGUN, DAMAGED, DIVIDED, ENDED, FIRST, FIRST_OF_3, FOREIGN, IN_WINDOW, LAST_OF_3,
+    LONG, MIDDLE_OF_3, MIXED, SECOND, SKIPPED, TEN_FILLED, THIRD, THROUGH, WHOLE, WHOLE_BD,
+    WITH_FECF, WITH_GAP, octets,
 };
 use super::support::rows::{Stop, holds};
-use super::support::streams::{FailsAfter, InPieces, Unreadable};
+use super::support::streams::{FailsAfter, InPieces, Page};
+use arrayvec::ArrayVec;
 use sl_link::{
     CheckWord, Compared, Counted, LinkFault, Managed, Summary, compare_tc, compare_tm,
     write_difference_tc, write_difference_tm,
@@ -12,7 +15,8 @@ use sl_link::{
 use sl_pair::{Answer, Station};
 use std::alloc::{AllocError, Global};
 use std::hash::{BuildHasherDefault, FoldHasher};
-use std::io::Read;
+use std::io::{Read, Write};
+use std::process::Abort;
 
 type Hasher = BuildHasherDefault<FoldHasher>;
 
@@ -112,21 +116,114 @@ const TC_CASES: [Case; 4] = [
     (&[WHOLE], &DIVIDED, (Answer::Different, (1, 1), (1, 1))),
 ];
 
-// Two TM recordings, and the lines of what only one of them delivers.
-const TM_TEXTS: [(&[&str], &[&str], &str); 3] = [
-    (&THROUGH, &AROUND_IDLE, ""),
+// Two recordings, whether each packet has a line of its own, and the lines of what only one of them
+// delivers.
+type Text<'a> = (Kind, &'a [&'a str], &'a [&'a str], bool, &'a str);
+
+const TEXTS: [Text; 11] = [
+    (Kind::Tm, &THROUGH, &AROUND_IDLE, false, ""),
     // The packets of APID 1 and 2 stand for themselves; that of APID 3 was lost with a frame.
-    (&THROUGH, &WITH_GAP, TM_LOST),
     (
+        Kind::Tm,
+        &THROUGH,
+        &WITH_GAP,
+        false,
+        "< vc 0 apid 3 counts 0 packets 1\n",
+    ),
+    (
+        Kind::Tm,
+        &THROUGH,
+        &WITH_GAP,
+        true,
+        "< vc 0 apid 3 type 0 secondary 0 flags 3 count 0 octets 10 0003c000000301020304\n",
+    ),
+    (
+        Kind::Tm,
         &[FIRST, TEN_FILLED],
         &COUNTED,
+        false,
         "> vc 0 apid 1 counts 16383..0 packets 2\n\
          > vc 0 apid 1 counts 2 packets 1\n\
          > vc 0 apid 2 counts 6 packets 1\n",
     ),
+    // Of three copies of a packet the other recording has one.
+    (
+        Kind::Tm,
+        &THREE_TIMES,
+        &TEN_FULL,
+        false,
+        "< vc 0 apid 1 counts 0 packets 1\n\
+         < vc 0 apid 1 counts 0 packets 1\n\
+         < vc 0 apid 2 counts 5 packets 1\n\
+         < vc 0 apid 3 counts 0 packets 1\n\
+         > vc 0 apid 2 counts 6 packets 1\n",
+    ),
+    (
+        Kind::Tm,
+        &THREE_TIMES,
+        &TEN_FULL,
+        true,
+        "< vc 0 apid 1 type 0 secondary 0 flags 3 count 0 octets 10 0001c0000003aabbccdd\n\
+         < vc 0 apid 1 type 0 secondary 0 flags 3 count 0 octets 10 0001c0000003aabbccdd\n\
+         < vc 0 apid 2 type 0 secondary 0 flags 3 count 5 octets 23 \
+         0002c00500101111111111111111111111111111111111\n\
+         < vc 0 apid 3 type 0 secondary 0 flags 3 count 0 octets 10 0003c000000301020304\n\
+         > vc 0 apid 2 type 0 secondary 0 flags 3 count 6 octets 26 \
+         0002c00600132222222222222222222222222222222222222222\n",
+    ),
+    (Kind::Tc, &[WHOLE], &[WHOLE_BD], false, ""),
+    (
+        Kind::Tc,
+        &[],
+        &[WHOLE],
+        true,
+        "> vc 0 map 0 apid 1 type 1 secondary 0 flags 3 count 0 octets 10 1001c0000003aabbccdd\n",
+    ),
+    (
+        Kind::Tc,
+        &[WHOLE, SECOND],
+        &DIVIDED,
+        false,
+        "< vc 0 map 0 apid 1 counts 0 packets 1\n\
+         < vc 0 map 0 apid 1 counts 0 packets 1\n\
+         > vc 5 map 0 apid 2 counts 5 packets 1\n",
+    ),
+    (
+        Kind::Tc,
+        &[WHOLE, SECOND, THIRD],
+        &BD_DIVIDED,
+        false,
+        "< vc 0 map 0 apid 1 counts 0 packets 1\n\
+         < vc 0 map 0 apid 1 counts 0 packets 1\n\
+         > vc 5 map 0 apid 2 counts 5 packets 1\n",
+    ),
+    (
+        Kind::Tc,
+        &[WHOLE, SECOND, THIRD],
+        &BD_DIVIDED,
+        true,
+        "< vc 0 map 0 apid 1 type 1 secondary 0 flags 3 count 0 octets 10 1001c0000003aabbccdd\n\
+         < vc 0 map 0 apid 1 type 1 secondary 0 flags 3 count 0 octets 10 1001c0000003aabbccdd\n\
+         > vc 5 map 0 apid 2 type 1 secondary 0 flags 3 count 5 octets 23 \
+         1002c00500101111111111111111111111111111111111\n",
+    ),
 ];
 
-const TM_LOST: &str = "< vc 0 apid 3 counts 0 packets 1\n";
+// `THROUGH`, and its packet of APID 1 twice more.
+const THREE_TIMES: [&str; 9] = [
+    FIRST,
+    LONG,
+    BEGUN,
+    "001001011807",
+    ENDED,
+    FIRST,
+    TEN_FILLED,
+    FIRST,
+    TEN_FILLED,
+];
+
+// The packet of `WHOLE`, and that of `DIVIDED`.
+const BD_DIVIDED: [&str; 4] = [WHOLE_BD, FIRST_OF_3, MIDDLE_OF_3, LAST_OF_3];
 
 // Packets of APID 2 and 1, the latter with the counts 16383, 0, 0 and 2; the second of the two with
 // the count 0 is that of `TEN_FILLED`.
@@ -149,105 +246,114 @@ const NO_COUNT: &str = "0001c0000003aabbccde07ffc000000900000000000000000000";
 
 const SECOND_COUNT: &str = "0001c0020003aabbccdd07ffc000000900000000000000000000";
 
-// Two TC recordings, and such lines.
-const TC_TEXTS: [(&[&str], &[&str], &str); 2] = [
-    (&[WHOLE], &[WHOLE_BD], ""),
-    (
-        &[WHOLE, SECOND],
-        &DIVIDED,
-        "< vc 0 map 0 apid 1 counts 0 packets 1\n\
-         < vc 0 map 0 apid 1 counts 0 packets 1\n\
-         > vc 5 map 0 apid 2 counts 5 packets 1\n",
-    ),
-];
-
-fn text_tm(
+fn compare<A: Read, B: Read>(
     alloc: Global,
+    kind: Kind,
     managed: &Managed,
-    each: bool,
-    one: &[u8],
-    other: &[u8],
-) -> Result<Vec<u8>, Stop> {
-    let (mut one, mut other) = (Counted::new(one), Counted::new(other));
+    one: &mut Counted<A>,
+    other: &mut Counted<B>,
+) -> Result<Compared<Hasher>, LinkFault> {
     let hasher: Hasher = BuildHasherDefault::new();
-    let compared = compare_tm(alloc, hasher, managed, &mut one, managed, &mut other)?;
-    let mut writer = Counted::new(Vec::new(alloc));
-    write_difference_tm(&compared, each, &mut writer)?;
-    Ok(writer.into_inner())
+    match kind {
+        Kind::Tm => compare_tm(alloc, hasher, managed, one, managed, other),
+        Kind::Tc => compare_tc(alloc, hasher, managed, one, managed, other),
+    }
 }
 
-fn text_tc(
-    alloc: Global,
-    managed: &Managed,
+fn write_difference<W: Write>(
+    kind: Kind,
+    compared: &Compared<Hasher>,
     each: bool,
-    one: &[u8],
-    other: &[u8],
-) -> Result<Vec<u8>, Stop> {
-    let (mut one, mut other) = (Counted::new(one), Counted::new(other));
-    let hasher: Hasher = BuildHasherDefault::new();
-    let compared = compare_tc(alloc, hasher, managed, &mut one, managed, &mut other)?;
-    let mut writer = Counted::new(Vec::new(alloc));
-    write_difference_tc(&compared, each, &mut writer)?;
-    Ok(writer.into_inner())
+    writer: &mut Counted<W>,
+) -> Result<(), LinkFault> {
+    match kind {
+        Kind::Tm => write_difference_tm(compared, each, writer),
+        Kind::Tc => write_difference_tc(compared, each, writer),
+    }
+}
+
+// The octets of these parts, as `octets` has them, without memory.
+fn in_place(parts: &[&str]) -> Result<ArrayVec<u8, 200>, Stop> {
+    let mut octets = ArrayVec::new();
+    for part in parts {
+        let mut room = [0; 32];
+        let length = room.len().min(part.len() / 2);
+        hex::decode_to_slice(*part, &mut room[..length])?;
+        let added = octets.try_extend_from_slice(&room[..length]);
+        added.map_err(|_| Stop::Absent)?;
+    }
+    Ok(octets)
+}
+
+// How a comparison ends, and what it wrote. Nothing else takes memory.
+fn written(alloc: Global, row: &Text) -> Result<(Result<(), LinkFault>, Page), Stop> {
+    let (kind, one, other, each, _) = row;
+    let managed = link(1000)?;
+    let (one, other) = (in_place(one)?, in_place(other)?);
+    let mut one = Counted::new(one.as_slice());
+    let mut other = Counted::new(other.as_slice());
+    let mut writer = Counted::new(Page {
+        octets: ArrayVec::new(),
+    });
+    let outcome = match compare(alloc, *kind, &managed, &mut one, &mut other) {
+        Ok(compared) => write_difference(*kind, &compared, *each, &mut writer),
+        Err(fault) => Err(fault),
+    };
+    Ok((outcome, writer.into_inner()))
 }
 
 #[test]
-fn what_is_left_is_written_in_runs(rt: HostRuntime) -> Result<(), Stop> {
-    let alloc = rt.alloc();
-    let managed = link(1000)?;
-    for (one, other, wanted) in &TM_TEXTS {
-        let (one, other) = (octets(alloc, one)?, octets(alloc, other)?);
-        let text = text_tm(alloc, &managed, false, one.as_slice(), other.as_slice())?;
-        holds(&rt, wanted, text.as_slice() == wanted.as_bytes());
-    }
-    for (one, other, wanted) in &TC_TEXTS {
-        let (one, other) = (octets(alloc, one)?, octets(alloc, other)?);
-        let text = text_tc(alloc, &managed, false, one.as_slice(), other.as_slice())?;
-        holds(&rt, wanted, text.as_slice() == wanted.as_bytes());
+fn what_is_left_is_written(rt: HostRuntime) -> Result<(), Stop> {
+    for row in &TEXTS {
+        let (outcome, page) = written(rt.alloc(), row)?;
+        let is_text = page.octets.as_slice() == row.4.as_bytes();
+        holds(&rt, row, outcome.is_ok() && is_text);
     }
     Ok(())
 }
 
-// The packet that was lost with a frame, and that of a unit, as `packets` lists them.
-const TM_EACH: &str =
-    "< vc 0 apid 3 type 0 secondary 0 flags 3 count 0 octets 10 0003c000000301020304\n";
-
-const TC_EACH: &str =
-    "> vc 0 map 0 apid 1 type 1 secondary 0 flags 3 count 0 octets 10 1001c0000003aabbccdd\n";
-
+// Memory may be refused at each growth: `rt try --test --fail-alloc N` refuses the Nth. What was
+// written is the beginning of the lines.
 #[test]
-fn each_packet_that_is_left_is_written(rt: HostRuntime) -> Result<(), Stop> {
-    let alloc = rt.alloc();
-    let managed = link(1000)?;
-    let (one, other) = (octets(alloc, &THROUGH)?, octets(alloc, &WITH_GAP)?);
-    let text = text_tm(alloc, &managed, true, one.as_slice(), other.as_slice())?;
-    holds(&rt, &TM_EACH, text.as_slice() == TM_EACH.as_bytes());
-    let other = octets(alloc, &[WHOLE])?;
-    let text = text_tc(alloc, &managed, true, "".as_bytes(), other.as_slice())?;
-    holds(&rt, &TC_EACH, text.as_slice() == TC_EACH.as_bytes());
+fn each_growth_of_a_comparison_may_be_refused(rt: HostRuntime) -> Result<(), Stop> {
+    for row in &TEXTS {
+        let (outcome, page) = written(rt.alloc(), row)?;
+        let (octets, whole) = (page.octets.as_slice(), row.4.as_bytes());
+        let is_so = match outcome {
+            Ok(()) => octets == whole,
+            Err(fault) => fault == LinkFault::Memory && whole.starts_with(octets),
+        };
+        holds(&rt, row, is_so);
+    }
     Ok(())
 }
 
 // Each write may be the one that fails. What was written is the beginning of the lines.
-#[test]
-fn each_write_of_what_is_left_may_fail(rt: HostRuntime) -> Result<(), Stop> {
-    let alloc = rt.alloc();
+fn writes_fail(rt: &impl Abort, alloc: Global, row: &Text) -> Result<(), Stop> {
+    let (kind, one, other, each, wanted) = row;
     let managed = link(1000)?;
-    let (one, other) = (octets(alloc, &THROUGH)?, octets(alloc, &WITH_GAP)?);
+    let (one, other) = (octets(alloc, one)?, octets(alloc, other)?);
     let mut one = Counted::new(one.as_slice());
     let mut other = Counted::new(other.as_slice());
-    let hasher: Hasher = BuildHasherDefault::new();
-    let compared = compare_tm(alloc, hasher, &managed, &mut one, &managed, &mut other)?;
-    for writes in 0..TM_LOST.len() {
+    let compared = compare(alloc, *kind, &managed, &mut one, &mut other)?;
+    for writes in 0..wanted.len() {
         let mut writer = Counted::new(FailsAfter {
             inner: InPieces(Vec::new(alloc), 1),
             allowed: writes as u64,
         });
-        let fault = write_difference_tm(&compared, false, &mut writer).err();
+        let fault = write_difference(*kind, &compared, *each, &mut writer).err();
         let is_fault = (fault, writer.faults()) == (Some(LinkFault::Write), 1);
         let taken = writer.into_inner().inner.0;
-        let is_front = Some(taken.as_slice()) == TM_LOST.as_bytes().get(..writes);
-        holds(&rt, &("write", writes), is_fault && is_front);
+        let is_front = Some(taken.as_slice()) == wanted.as_bytes().get(..writes);
+        holds(rt, &(row, "write", writes), is_fault && is_front);
+    }
+    Ok(())
+}
+
+#[test]
+fn each_write_of_what_is_left_may_fail(rt: HostRuntime) -> Result<(), Stop> {
+    for row in &TEXTS {
+        writes_fail(&rt, rt.alloc(), row)?;
     }
     Ok(())
 }
@@ -301,45 +407,66 @@ fn the_links_may_differ(rt: HostRuntime) -> Result<(), Stop> {
 // Whether a comparison stops with this fault.
 fn stops<A: Read + Drop, B: Read + Drop>(
     alloc: Global,
-    limit: u64,
+    (kind, limit): (Kind, u64),
     streams: (A, B),
     wanted: (LinkFault, (u64, u64)),
 ) -> Result<bool, Stop> {
     let managed = link(limit)?;
     let mut one = Counted::new(streams.0);
     let mut other = Counted::new(streams.1);
-    let hasher: Hasher = BuildHasherDefault::new();
-    let fault = compare_tm(alloc, hasher, &managed, &mut one, &managed, &mut other).err();
+    let fault = compare(alloc, kind, &managed, &mut one, &mut other).err();
     Ok((fault, (one.faults(), other.faults())) == (Some(wanted.0), wanted.1))
 }
 
+// Gives an octet at a time, and fails once this number of reads have gone well.
+fn fails_after(recording: &[u8], allowed: u64) -> FailsAfter<InPieces<&[u8]>> {
+    let inner = InPieces(recording, 1);
+    FailsAfter { inner, allowed }
+}
+
+// Each read of either recording may be the one that fails.
+fn reads_fail(rt: &impl Abort, alloc: Global, row: &Text) -> Result<(), Stop> {
+    let (one, other) = (octets(alloc, row.1)?, octets(alloc, row.2)?);
+    let (one, other) = (one.as_slice(), other.as_slice());
+    let link = (row.0, 1000);
+    for allowed in 0..=one.len() as u64 {
+        let streams = (fails_after(one, allowed), InPieces(other, 1));
+        let is_so = stops(alloc, link, streams, (LinkFault::Read, (1, 0)))?;
+        holds(rt, &(row, "first", allowed), is_so);
+    }
+    for allowed in 0..=other.len() as u64 {
+        let streams = (InPieces(one, 1), fails_after(other, allowed));
+        let is_so = stops(alloc, link, streams, (LinkFault::Read, (0, 1)))?;
+        holds(rt, &(row, "second", allowed), is_so);
+    }
+    Ok(())
+}
+
 #[test]
-fn either_recording_may_stop_it(rt: HostRuntime) -> Result<(), Stop> {
+fn each_read_of_either_recording_may_fail(rt: HostRuntime) -> Result<(), Stop> {
+    for row in &TEXTS {
+        reads_fail(&rt, rt.alloc(), row)?;
+    }
+    Ok(())
+}
+
+// Recordings of 32 octets.
+const OF_32: [(Kind, [&str; 2]); 2] = [
+    (Kind::Tm, [FIRST, TEN_FILLED]),
+    (Kind::Tc, [WHOLE, SECOND]),
+];
+
+#[test]
+fn either_recording_may_be_too_long(rt: HostRuntime) -> Result<(), Stop> {
     let alloc = rt.alloc();
-    let recording = octets(alloc, &[FIRST, TEN_FILLED])?;
-    let whole = recording.as_slice();
-    let first = stops(alloc, 32, (Unreadable, whole), (LinkFault::Read, (1, 0)))?;
-    holds(&rt, &"first", first);
-    let fails = FailsAfter {
-        inner: whole,
-        allowed: 1,
-    };
-    let second = stops(alloc, 32, (whole, fails), (LinkFault::Read, (0, 1)))?;
-    holds(&rt, &"second", second);
-    let long = stops(
-        alloc,
-        31,
-        (whole, "".as_bytes()),
-        (LinkFault::TooLong, (0, 0)),
-    )?;
-    holds(&rt, &"long", long);
-    let other_long = stops(
-        alloc,
-        31,
-        ("".as_bytes(), whole),
-        (LinkFault::TooLong, (0, 0)),
-    )?;
-    holds(&rt, &"other long", other_long);
+    let wanted = (LinkFault::TooLong, (0, 0));
+    for (kind, parts) in &OF_32 {
+        let recording = octets(alloc, parts)?;
+        let (long, empty) = (recording.as_slice(), "".as_bytes());
+        let first = stops(alloc, (*kind, 31), (long, empty), wanted)?;
+        let second = stops(alloc, (*kind, 31), (empty, long), wanted)?;
+        holds(&rt, kind, first && second);
+    }
     Ok(())
 }
 

@@ -5,9 +5,8 @@ use super::support::recordings::TC_FRAME;
 use super::support::rows::{Stop, passes};
 use super::support::streams::Page;
 use arrayvec::ArrayVec;
-use sl_link::{Counted, LinkFault, Managed, compare_tm, write_difference_tm};
+use sl_link::LinkFault;
 use std::alloc::Global;
-use std::hash::{BuildHasherDefault, FoldHasher};
 
 // A packet of 23 octets, and one of ten in two frames, between which is an idle one.
 const TM: [u8; 96] = [
@@ -95,55 +94,10 @@ fn may_be_refused(alloc: Global, case: &Case) -> Result<bool, Stop> {
     Ok(is_so(*kind, *verb, &ending, whole))
 }
 
-// What `TM` twice has, and an empty recording lacks.
-const TM_LEFT: &[u8] = b"< vc 0 apid 1 counts 0 packets 1\n\
-    < vc 0 apid 1 counts 0 packets 1\n\
-    < vc 0 apid 2 counts 5 packets 1\n\
-    < vc 0 apid 2 counts 5 packets 1\n\
-    < vc 0 apid 3 counts 0 packets 1\n\
-    < vc 0 apid 3 counts 0 packets 1\n";
-
-// Writes what a recording has, and an empty one lacks.
-fn compare(
-    alloc: Global,
-    managed: &Managed,
-    recording: &[u8],
-    writer: &mut Counted<Page>,
-) -> Result<(), LinkFault> {
-    let hasher: BuildHasherDefault<FoldHasher> = BuildHasherDefault::new();
-    let (mut one, mut other) = (Counted::new(recording), Counted::new("".as_bytes()));
-    let compared = compare_tm(alloc, hasher, managed, &mut one, managed, &mut other)?;
-    write_difference_tm(&compared, false, writer)
-}
-
-// Whether a comparison writes all; or memory was refused, and it wrote the beginning.
-fn comparison_may_be_refused(alloc: Global) -> Result<bool, Stop> {
-    let managed = Managed::new(1, 32, false, 16, false, 10, 0, 200).map_err(|_| Stop::Absent)?;
-    let mut twice: ArrayVec<u8, 192> = ArrayVec::new();
-    for _ in 0..2 {
-        twice.try_extend_from_slice(&TM).map_err(|_| Stop::Absent)?;
-    }
-    let mut writer = Counted::new(Page {
-        octets: ArrayVec::new(),
-    });
-    let outcome = compare(alloc, &managed, twice.as_slice(), &mut writer);
-    let page = writer.into_inner();
-    let octets = page.octets.as_slice();
-    Ok(match outcome {
-        Ok(()) => octets == TM_LEFT,
-        Err(fault) => fault == LinkFault::Memory && TM_LEFT.starts_with(octets),
-    })
-}
-
 #[test]
 fn each_growth_may_be_refused(rt: HostRuntime) {
     for case in &CASES {
         let outcome = may_be_refused(rt.alloc(), case);
         passes(&rt, &(case.0, case.3), outcome);
     }
-}
-
-#[test]
-fn each_growth_of_a_comparison_may_be_refused(rt: HostRuntime) {
-    passes(&rt, &"compare", comparison_may_be_refused(rt.alloc()));
 }

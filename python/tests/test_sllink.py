@@ -613,7 +613,7 @@ class Merges(InAFolder):
     def test_refusals(self):
         """Nothing is written."""
         output = self.folder / "out.tm"
-        for recordings, said in ((FIRST, SECOND), "no frame in common$"), ([FIRST], "required arguments"):
+        for recordings, said in ((FIRST, SECOND), "no frame in common; sllink-identify "), ([FIRST], "required arguments"):
             self.refused(2, f"^sllink-merge: .*{said}", sllink.merge, "tm", recordings, output, STATION)
         self.refused(127, "isn't sllink-merge, .*SLLINK_MERGE says", sllink.merge, "tm", (FIRST, THIRD), output, STATION,
                      program=sllink.find_program())

@@ -47,30 +47,18 @@ impl Hexadecimals {
             }
             // The last ones. Some of them may be written already, and are written again.
             digits.put_thirty_two(octets, many - 32, buffer, at);
+        } else if many >= 16 {
+            digits.put_sixteen(octets, 0, buffer, at);
+            digits.put_sixteen(octets, many - 16, buffer, at);
         } else if many >= 8 {
-            digits.put_few(octets, buffer, at);
+            digits.put_eight(octets, 0, buffer, at);
+            digits.put_eight(octets, many - 8, buffer, at);
         } else if many >= 4 {
             digits.put_four(octets, 0, buffer, at);
             digits.put_four(octets, many - 4, buffer, at);
         } else {
             let _ = hex::encode_to_slice(octets, &mut buffer[at..at + 2 * many]);
         }
-    }
-
-    // The same for eight octets and more.
-    #[inline(always)]
-    fn put_few(&self, octets: &[u8], buffer: &mut [u8], at: usize)
-        requires some { 8 ≤ length octets.now }
-        requires room { at + 2 * length octets.now ≤ length buffer.old }
-        ensures text { take (at + 2 * length octets.now) buffer.new
-            ≡ take at buffer.old ++ encode_lower octets.now }
-        ensures long { length buffer.new ≡ length buffer.old }
-    {
-        let many = octets.len();
-        for i in 0..many / 8 {
-            self.put_eight(octets, 8 * i, buffer, at);
-        }
-        self.put_eight(octets, many - 8, buffer, at);
     }
 
     // Writes 32 of these octets, from the index `from` on, where those before `from` are written.
@@ -84,8 +72,18 @@ impl Hexadecimals {
             .copy_to_slice(&mut buffer[at + 2 * from..]);
     }
 
-    // Writes eight of these octets, from the index `from` on, where those before `from` are
-    // written.
+    // The same with sixteen of them.
+    #[inline(always)]
+    fn put_sixteen(&self, octets: &[u8], from: usize, buffer: &mut [u8], at: usize)
+        requires inside { from + 16 ≤ length octets.now }
+        requires room { at + 2 * (from + 16) ≤ length buffer.old }
+        ensures { PutsBlock octets.now from 16 at buffer.old buffer.new }
+    {
+        self.of_sixteen(u8x16::from_slice(&octets[from..]))
+            .copy_to_slice(&mut buffer[at + 2 * from..]);
+    }
+
+    // The same with eight of them.
     #[inline(always)]
     fn put_eight(&self, octets: &[u8], from: usize, buffer: &mut [u8], at: usize)
         requires inside { from + 8 ≤ length octets.now }
@@ -139,6 +137,31 @@ impl Hexadecimals {
                 0, 1, 2, 3, 4, 5, 6, 7, 8, 9, 10, 11, 12, 13, 14, 15, 0, 1, 2, 3, 4, 5, 6, 7, 8, 9,
                 10, 11, 12, 13, 14, 15, 0, 1, 2, 3, 4, 5, 6, 7, 8, 9, 10, 11, 12, 13, 14, 15, 0, 1,
                 2, 3, 4, 5, 6, 7, 8, 9, 10, 11, 12, 13, 14, 15,
+            ],
+        );
+        table.swizzle_dyn_within::<16>(halves)
+    }
+
+    // Sixteen octets likewise.
+    #[inline(always)]
+    fn of_sixteen(&self, octets: u8x16) -> u8x32
+        ensures { result ≡ encode_lower octets }
+    {
+        let upper = octets >> u8x16::splat(4);
+        let lower = octets & u8x16::splat(15);
+        let halves: u8x32 = upper.shuffle(
+            lower,
+            [
+                0, 16, 1, 17, 2, 18, 3, 19, 4, 20, 5, 21, 6, 22, 7, 23, 8, 24, 9, 25, 10, 26, 11,
+                27, 12, 28, 13, 29, 14, 30, 15, 31,
+            ],
+        );
+        let digits = u8x16::from_array(self.digits);
+        let table: u8x32 = digits.shuffle(
+            digits,
+            [
+                0, 1, 2, 3, 4, 5, 6, 7, 8, 9, 10, 11, 12, 13, 14, 15, 0, 1, 2, 3, 4, 5, 6, 7, 8, 9,
+                10, 11, 12, 13, 14, 15,
             ],
         );
         table.swizzle_dyn_within::<16>(halves)

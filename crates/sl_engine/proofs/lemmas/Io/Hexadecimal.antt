@@ -29,7 +29,17 @@ unfolding halves
 halves_of_eight (a ∷ b ∷ c ∷ d ∷ e ∷ f ∷ g ∷ h ∷ []) long = refl
 halves_of_eight octets long = absurd (omega arith)
 
--- and those of 32
+-- and those of sixteen, and of 32
+abbrev pub sixteen_halves : List ℕ → List ℕ
+sixteen_halves octets =
+    pick_l 0 (zip2 (λ a b. a / 2 ^ b) octets (replicate 16 4) ++ zip2 bit_and octets (replicate 16 15))
+    (0 ∷ 16 ∷ 1 ∷ 17 ∷ 2 ∷ 18 ∷ 3 ∷ 19 ∷ 4 ∷ 20 ∷ 5 ∷ 21 ∷ 6 ∷ 22 ∷ 7 ∷ 23 ∷ 8 ∷ 24 ∷ 9 ∷ 25 ∷ 10 ∷ 26 ∷ 11 ∷ 27 ∷ 12 ∷ 28 ∷ 13 ∷ 29 ∷ 14 ∷ 30 ∷ 15 ∷ 31 ∷ [])
+
+halves_of_sixteen : (octets : List ℕ) → length octets ≡ 16 → sixteen_halves octets ≡ halves octets
+unfolding halves
+halves_of_sixteen (x0 ∷ x1 ∷ x2 ∷ x3 ∷ x4 ∷ x5 ∷ x6 ∷ x7 ∷ x8 ∷ x9 ∷ x10 ∷ x11 ∷ x12 ∷ x13 ∷ x14 ∷ x15 ∷ []) long = refl
+halves_of_sixteen octets long = absurd (omega arith)
+
 abbrev pub halves_in_lanes : List ℕ → List ℕ
 halves_in_lanes octets =
     pick_l 0 (zip2 (λ a b. a / 2 ^ b) octets (replicate 32 4) ++ zip2 bit_and octets (replicate 32 15))
@@ -76,7 +86,7 @@ digits_of_halves t (x ∷ octets) i inside fits =
 pub eight_digits : (t octets : List ℕ) → length octets ≡ 8 → Each1 (Fits w8) octets → swz_l w8 16 t 0 (eight_halves octets) ≡ encode_with t octets
 eight_digits t octets long fits = ap (swz_l w8 16 t 0) (halves_of_eight octets long) ∙ digits_of_halves t octets 0 (omega (arith, long)) fits
 
--- ---- the same of 32 octets, where the digits stand in the table four times, once for each sixteen lanes
+-- ---- the same of sixteen octets, and of 32, where the digits stand in the table once for each sixteen lanes
 
 abbrev four_times : List ℕ → List ℕ
 four_times t = t ++ (t ++ (t ++ t))
@@ -102,16 +112,43 @@ place (suc (suc (suc zero))) h few below =
     ∙ get_or-append-add t (t ++ t) (16 + h) 0 ∙ get_or-append-add t t h 0
 place (suc (suc (suc (suc q)))) h few below = absurd (omega (arith, few))
 
-digit_in_lane : (i h : ℕ) → i < 64 → h < 16 → cond (leb 128 h) 0 (get_or (four_times lower_digits) (16 * (i / 16) + h) 0) ≡ slice_index lower_digits h
-digit_in_lane i h inside below = rw (lt-leb 128 h (omega arith)) (place (i / 16) h (omega arith) below)
+-- a table in which each of the first n times sixteen places has the digit of a half
+record HasDigits (table : List ℕ) (n : ℕ) : Type 0 where
+  at : (q h : ℕ) → q < n → h < 16 → get_or table (16 * q + h) 0 ≡ slice_index lower_digits h
 
-digits_in_lanes : (octets : List ℕ) (i : ℕ) → i + 2 * length octets ≤ 64 → Each1 (Fits w8) octets
-    → swz_l w8 16 (four_times lower_digits) i (halves octets) ≡ encode_lower octets
+digit_in_lane : {table : List ℕ} {n : ℕ} → HasDigits table n → (i h : ℕ) → i < 16 * n → h < 16
+    → cond (leb 128 h) 0 (get_or table (16 * (i / 16) + h) 0) ≡ slice_index lower_digits h
+digit_in_lane has i h inside below = rw (lt-leb 128 h (omega arith)) (has.at (i / 16) h (omega arith) below)
+
+digits_in_lanes : {table : List ℕ} {n : ℕ} → HasDigits table n → (octets : List ℕ) (i : ℕ) → i + 2 * length octets ≤ 16 * n → Each1 (Fits w8) octets
+    → swz_l w8 16 table i (halves octets) ≡ encode_lower octets
 unfolding halves encode_with
-digits_in_lanes [] i inside fits = refl
-digits_in_lanes (x ∷ octets) i inside fits =
-    rw (digit_in_lane i (x / 16) (omega arith) (omega (arith, fits.0.fits)), digit_in_lane (suc i) (bit_and x 15) (omega arith) (lower_below x), and_mask x 4)
-    (ap (λ l. slice_index lower_digits (x / 16) ∷ slice_index lower_digits (x % 16) ∷ l) (digits_in_lanes octets (suc (suc i)) (omega arith) fits.1))
+digits_in_lanes has [] i inside fits = refl
+digits_in_lanes has (x ∷ octets) i inside fits =
+    rw (digit_in_lane has i (x / 16) (omega arith) (omega (arith, fits.0.fits)), digit_in_lane has (suc i) (bit_and x 15) (omega arith) (lower_below x), and_mask x 4)
+    (ap (λ l. slice_index lower_digits (x / 16) ∷ slice_index lower_digits (x % 16) ∷ l) (digits_in_lanes has octets (suc (suc i)) (omega arith) fits.1))
+
+has_four_times : HasDigits (four_times lower_digits) 4
+has_four_times = record { at = place }
+
+twice_place : (q h : ℕ) → q < 2 → h < 16 → get_or (lower_digits ++ lower_digits) (16 * q + h) 0 ≡ slice_index lower_digits h
+twice_place zero h few below =
+    let t = lower_digits in
+    let at : 16 * 0 + h ≡ h = omega arith in
+    ap (λ (k : ℕ). get_or (t ++ t) k 0) at ∙ get_or_append_left t t 0 h below
+twice_place (suc zero) h few below =
+    let t = lower_digits in
+    let at : 16 * 1 + h ≡ 16 + h = omega arith in
+    ap (λ (k : ℕ). get_or (t ++ t) k 0) at ∙ get_or-append-add t t h 0
+twice_place (suc (suc q)) h few below = absurd (omega (arith, few))
+
+has_twice : HasDigits (lower_digits ++ lower_digits) 2
+has_twice = record { at = twice_place }
+
+pub sixteen_ok : (octets : List ℕ) → length octets ≡ 16 → Each1 (Fits w8) octets → SwzOk w8 16 32 0 (sixteen_halves octets)
+sixteen_ok octets long fits =
+    subst (SwzOk w8 16 32 0) (sym (halves_of_sixteen octets long))
+    (SwzOk-from_below w8 16 2 32 0 (halves octets) refl (omega (arith, length-halves octets, long)) (halves_below octets fits))
 
 pub lanes_ok : (octets : List ℕ) → length octets ≡ 32 → Each1 (Fits w8) octets → SwzOk w8 16 64 0 (halves_in_lanes octets)
 lanes_ok octets long fits =
@@ -120,7 +157,7 @@ lanes_ok octets long fits =
 
 lanes_digits : (octets : List ℕ) → length octets ≡ 32 → Each1 (Fits w8) octets
     → swz_l w8 16 (four_times lower_digits) 0 (halves_in_lanes octets) ≡ encode_lower octets
-lanes_digits octets long fits = ap (swz_l w8 16 (four_times lower_digits) 0) (halves_of_lanes octets long) ∙ digits_in_lanes octets 0 (omega (arith, long)) fits
+lanes_digits octets long fits = ap (swz_l w8 16 (four_times lower_digits) 0) (halves_of_lanes octets long) ∙ digits_in_lanes has_four_times octets 0 (omega (arith, long)) fits
 
 -- as vectors make that table
 abbrev pub table_in_lanes : List ℕ → List ℕ
@@ -132,6 +169,17 @@ swz_table t octets are long fits =
     let table : table_in_lanes lower_digits ≡ four_times lower_digits = refl in
     ap (λ d. swz_l w8 16 (table_in_lanes d) 0 (halves_in_lanes octets)) are
     ∙ ap (λ d. swz_l w8 16 d 0 (halves_in_lanes octets)) table ∙ lanes_digits octets long fits
+
+abbrev pub table_of_sixteen : List ℕ → List ℕ
+table_of_sixteen t = pick_l 0 (t ++ t) (0 ∷ 1 ∷ 2 ∷ 3 ∷ 4 ∷ 5 ∷ 6 ∷ 7 ∷ 8 ∷ 9 ∷ 10 ∷ 11 ∷ 12 ∷ 13 ∷ 14 ∷ 15 ∷ 0 ∷ 1 ∷ 2 ∷ 3 ∷ 4 ∷ 5 ∷ 6 ∷ 7 ∷ 8 ∷ 9 ∷ 10 ∷ 11 ∷ 12 ∷ 13 ∷ 14 ∷ 15 ∷ [])
+
+pub swz_sixteen : (t octets : List ℕ) → t ≡ lower_digits → length octets ≡ 16 → Each1 (Fits w8) octets
+    → swz_l w8 16 (table_of_sixteen t) 0 (sixteen_halves octets) ≡ encode_lower octets
+swz_sixteen t octets are long fits =
+    let table : table_of_sixteen lower_digits ≡ lower_digits ++ lower_digits = refl in
+    ap (λ d. swz_l w8 16 (table_of_sixteen d) 0 (sixteen_halves octets)) are
+    ∙ ap (λ d. swz_l w8 16 d 0 (sixteen_halves octets)) table
+    ∙ ap (swz_l w8 16 (lower_digits ++ lower_digits) 0) (halves_of_sixteen octets long) ∙ digits_in_lanes has_twice octets 0 (omega (arith, long)) fits
 
 -- the first eight digits of four octets and four more are those of the four
 pub first_of_eight : (octets : List ℕ) → length octets ≡ 4

@@ -38,6 +38,11 @@ def counts(some: Iterable[Packet]) -> List[Count]:
         key = packet.vc, -1 if packet.map is None else packet.map, packet.apid
         tally = found.get(key) or found.setdefault(key, Tally(packet.count))
         tally.add(packet.count, len(packet.octets))
+    return counted(found)
+
+
+def counted(found: Dict[Key, Tally]) -> List[Count]:
+    """The same of tallies."""
     return [Count(vc, None if map_id < 0 else map_id, apid, it.packets, it.octets, it.jumps)
             for (vc, map_id, apid), it in sorted(found.items())]
 

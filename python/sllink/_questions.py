@@ -1,10 +1,10 @@
-"""The questions about the options of a recording: what a page asks, by totals and lines of `check`, and what the module's
-command asks where no packet is delivered."""
+"""The questions about the options of a recording, by totals and lines of `check`: what a page and the module's command
+ask."""
 
 from typing import TYPE_CHECKING, List
 
 from ._check_words import CHECK_WORDS, REASONS, Reason
-from .tool import identified, shown
+from .tool import identified
 
 if TYPE_CHECKING:
     from ._survey import Survey
@@ -16,10 +16,6 @@ ALONE = {
 REST = {"tm": "Is --tm-length right?", "tc": "Is --tc-fecf right?"}
 DISCARDED = ("FARM-1 discards most frames of type AD. Does the recording begin in mid-pass, and does --vr-of name the "
              "V(R) of that moment for each virtual channel?")
-
-
-def silent_one(recording: str) -> str:
-    return f"{shown(recording)}: delivers no packet; are the options right?"
 
 
 def questions(survey: "Survey") -> List[str]:

@@ -1,6 +1,10 @@
 //! Files that can be read, and how their names, and why words are refused, stand in a line.
 #![tactic(auto)]
 
+ghost use Rattle.sl_files.specs.Line.{IsLineOf, ends_reason, one_line};
+ghost use Rattle.sl_files.specs.Shown.{is_printable, shown, shown_letter};
+ghost use Rattle.std.specs.Prelude.{IfOk, OnOk, string_bytes, ◌++◌, ◌≡◌};
+
 use std::alloc::{AllocError, Global};
 use std::fmt::Display;
 use std::fs::{File, metadata};
@@ -74,7 +78,8 @@ static UNPRINTABLE: [(char, char); 29] = [
     ('\u{e01f0}', '\u{10ffff}'),
 ];
 
-/// Opens a file of this name that has a size; `shown` is the name as it stands in a line.
+/// Opens a file of this name that has a size; `shown` is the name as it stands in a line. No clause
+/// says which names are refused: the kit's contracts tell nothing of files.
 pub fn open_file<'a>(rt: &HostRuntime, name: &str, shown: &'a str) -> Result<File, Unreadable<'a>> {
     if name.starts_with('-') {
         return Err(Unreadable::Option(shown));
@@ -102,61 +107,81 @@ fn has_octets(rt: &HostRuntime, name: &str) -> bool {
 
 /// A name as it stands in a line: characters that can't be printed are escaped, and an empty name
 /// is `''`.
-pub fn shown(alloc: Global, name: &str) -> Result<String, AllocError> {
+pub fn shown(alloc: Global, name: &str) -> Result<String, AllocError>
+    ensures { IfOk result (λ text. string_bytes text ≡ shown name.now) }
+{
+    if name.is_empty() {
+        return "''".to_string(alloc);
+    }
     let mut text = String::new(alloc);
     for letter in name.chars() {
         push_shown(&mut text, letter)?;
-    }
-    if text.is_empty() {
-        text.push_str("''")?;
     }
     Ok(text)
 }
 
 // Appends a character as it stands in a line.
-fn push_shown(text: &mut String, letter: char) -> Result<(), AllocError> {
+fn push_shown(text: &mut String, letter: char) -> Result<(), AllocError>
+    ensures { OnOk result (string_bytes text.new ≡ string_bytes text.old ++ shown_letter letter) }
+{
+    if is_printable(letter) {
+        return text.push(letter);
+    }
     let code = u32::from(letter);
     match letter {
         '\n' => text.push_str("\\n"),
         '\r' => text.push_str("\\r"),
         '\t' => text.push_str("\\t"),
-        _ if is_printable(letter) => text.push(letter),
         '\0'..='\u{ff}' => write!(text, "\\x{code:02x}"),
         '\u{100}'..='\u{ffff}' => write!(text, "\\u{code:04x}"),
         _ => write!(text, "\\U{code:08x}"),
     }
 }
 
-/// Why words are refused, in one line: without their usage and the hint at the help, which follow in
-/// what clap says.
-pub fn one_line(alloc: Global, refusal: &impl Display) -> Result<String, AllocError> {
-    let mut text = String::new(alloc);
-    write!(text, "{refusal}")?;
-    let mut line = String::new(alloc);
-    let mut after_gap = false;
-    for part in text.as_str().lines() {
-        let part = part.trim();
-        if part.starts_with("Usage:") || part.starts_with("For more information") {
-            break;
-        }
-        if part.is_empty() {
-            after_gap = true;
-            continue;
-        }
-        if after_gap {
-            line.push_str(";")?;
-            after_gap = false;
-        }
-        if !line.is_empty() {
-            line.push_str(" ")?;
-        }
-        line.push_str(part)?;
-    }
-    Ok(line)
-}
-
-fn is_printable(letter: char) -> bool {
+// Whether a character can be printed.
+fn is_printable(letter: char) -> bool
+    ensures { result ≡ is_printable letter }
+{
     !UNPRINTABLE
         .iter()
         .any(|(first, last)| *first <= letter && letter <= *last)
+}
+
+/// Why words are refused, in one line: without their usage and the hint at the help, which follow in
+/// what clap says. A semicolon stands where blank lines stood between.
+pub fn one_line<D: Display>(alloc: Global, refusal: &D) -> Result<String, AllocError>
+    ensures { IfOk result (λ line. IsLineOf (D.output refusal.now) (string_bytes line)) }
+{
+    line_of(alloc, refusal.to_string(alloc)?.as_str())
+}
+
+// The reason that a text gives, in one line.
+fn line_of(alloc: Global, text: &str) -> Result<String, AllocError>
+    ensures { IfOk result (λ reason. string_bytes reason ≡ one_line text.now) }
+{
+    let mut reason = String::new(alloc);
+    let mut before = "";
+    for line in text.lines() {
+        let line = line.trim();
+        if ends_reason(line) {
+            break;
+        }
+        if line.is_empty() {
+            if !before.is_empty() {
+                before = "; ";
+            }
+        } else {
+            reason.push_str(before)?;
+            reason.push_str(line)?;
+            before = " ";
+        }
+    }
+    Ok(reason)
+}
+
+// Whether what follows the reason begins with this line.
+fn ends_reason(line: &str) -> bool
+    ensures { result ≡ ends_reason line.now }
+{
+    line.starts_with("Usage:") || line.starts_with("For more information")
 }

@@ -1,5 +1,4 @@
-use Rattle.std.proofs.Common.{◌++◌, ◌∷◌, [], cond, length, refl, sym, ap, ◌∙◌, append-nil, codes, string_bytes}
-use Rattle.std.specs.Char.{encode_utf8}
+use Rattle.std.proofs.Common.{◌++◌, [], cond, length, rules, sym, ap, ◌∙◌, append-nil, codes, string_bytes}
 use Rattle.std.specs.Str.Lines.{lines}
 use Rattle.std.proofs.lemmas.Iterator.Splits.{YieldsList-from_lines}
 use Rattle.std.proofs.lemmas.Iterator.Consumers.{YieldsList-turn, YieldsList-end}
@@ -10,10 +9,9 @@ use Rattle.sl_files.proofs.line_of.Goals as goal
 
 pub loop-line-init : goal.loop-line-init
 loop-line-init c =
-    (tt, tt, ([], (refl, refl)), ap (λ t. t ++ to_come [] (lines c.args.text.now)) c.new-reason.ensures.bytes ∙ to_come-all c.args.text.now)
+    (tt, tt, search rules, ap (λ t. t ++ to_come [] (lines c.args.text.now)) c.new-reason.ensures.bytes ∙ to_come-all c.args.text.now)
 
 pub loop-line-preserved-then-not-is_empty : goal.loop-line-preserved-then-not-is_empty
-unfolding encode_utf8
 loop-line-preserved-then-not-is_empty c =
     let next : Next (lines c.args.text.now) (length c.loop-line.yielded) c.in-Some.line.now c.trim-line.result.now = record {
       at = YieldsList-turn (YieldsList-from_lines c.args.text.now cc) c.loop-line.yielded _ c.loop-line.yielded_by _ _
@@ -22,7 +20,7 @@ loop-line-preserved-then-not-is_empty c =
     } in (
       tt,
       tt,
-      (59 ∷ 32 ∷ [], (refl, refl)),
+      search rules,
       blank_turn (string_bytes c.loop-line.reason) c.loop-line.before.now (codes "; ") _ c.loop-line.invariant.3 next
           (sym c.ends_reason.ensures ∙ c.if-ends_reason.false) (sym c.is_empty.ensures ∙ c.if-is_empty.true)
           (ap (λ b. cond b c.loop-line.before.now (codes "; ")) (sym c.is_empty-then-is_empty.ensures ∙ c.if-not-is_empty.true))
@@ -46,7 +44,6 @@ loop-line-preserved-else-not-is_empty c =
     )
 
 pub loop-line-preserved : goal.loop-line-preserved
-unfolding encode_utf8
 loop-line-preserved c =
     let next : Next (lines c.args.text.now) (length c.loop-line.yielded) c.in-Some.line.now c.trim-line.result.now = record {
       at = YieldsList-turn (YieldsList-from_lines c.args.text.now cc) c.loop-line.yielded _ c.loop-line.yielded_by _ _
@@ -55,7 +52,7 @@ loop-line-preserved c =
     } in (
       tt,
       tt,
-      (32 ∷ [], (refl, refl)),
+      search rules,
       line_turn (string_bytes c.loop-line.reason) c.loop-line.before.now _ _ c.loop-line.invariant.3 next
           (sym c.ends_reason.ensures ∙ c.if-ends_reason.false) (sym c.is_empty.ensures ∙ c.if-is_empty.false)
           (c.in_ok-push_str-2.ensures.bytes ∙ ap (λ s. s ++ c.trim-line.result.now) c.in_ok-push_str.ensures.bytes)

@@ -1,5 +1,5 @@
 //! The normal form of a recording.
-ghost use Rattle.std.specs.Prelude.{◌≡◌, ◌≢◌, ℕ, List, IfOk, IfErr, OnOk};
+ghost use Rattle.std.specs.Prelude.{◌≡◌, ◌≢◌, ℕ, List, [], IfOk, IfErr, OnErr, OnOk};
 ghost use Rattle.sl_tcframe.specs.TcDelimited.{tc_frames_of};
 ghost use Rattle.sl_tmframe.specs.TmDelimited.{tm_frames_of};
 ghost use Rattle.sl_engine.specs.Kind.Delivery.{AddsByChannel, AreStored, MayRefuseStoreMemory, counts_in, packets_by_channel};
@@ -10,7 +10,7 @@ ghost use Rattle.sl_engine.specs.Normalise.Form.{HasSome, IsMemoryRefused, Store
 ghost use Rattle.sl_engine.specs.Normalise.Tc.{tc_normal_form};
 ghost use Rattle.sl_engine.specs.Normalise.Tm.{tm_normal_form};
 ghost use Rattle.sl_engine.specs.Tally.{recording_counts};
-ghost use Rattle.sl_engine.specs.Io.Streams.{IsRead, KeepsPackets, Stops, StopsReading, StopsWriting, Translates, TranslatesWithTotals, WritesText};
+ghost use Rattle.sl_engine.specs.Io.Streams.{HasText, IsRead, KeepsPackets, Stops, StopsReading, StopsWriting, Translates, TranslatesWithTotals, WritesText};
 ghost use Rattle.sl_engine.specs.Framing.{MayRefuseMemoryAtSome, MayRefuseMemoryIn, chunk_size};
 
 mod form;
@@ -65,6 +65,9 @@ pub fn normalise_tm<R: Read, W: Write>(
     ensures all_read { IfErr result (λ fault. fault ≡ LinkFault.Write
         → IsRead R.remaining reader.new) }
     ensures nothing { IfErr result (λ fault. fault ≢ LinkFault.Write → writer.new ≡ writer.old) }
+    // The writer fails only where the normal form has an octet.
+    ensures some { IfErr result (λ fault. fault ≡ LinkFault.Write
+        → HasText R.remaining reader.old reader.new (tm_normal_form managed.now)) }
     // Memory is refused only where a packet is incomplete before a frame or after it, or was
     // delivered.
     ensures memory { IfErr result (λ fault. fault ≡ LinkFault.Memory
@@ -112,6 +115,9 @@ pub fn normalise_tc<R: Read, W: Write>(
     ensures all_read { IfErr result (λ fault. fault ≡ LinkFault.Write
         → IsRead R.remaining reader.new) }
     ensures nothing { IfErr result (λ fault. fault ≢ LinkFault.Write → writer.new ≡ writer.old) }
+    // The writer fails only where the normal form has an octet.
+    ensures some { IfErr result (λ fault. fault ≡ LinkFault.Write
+        → HasText R.remaining reader.old reader.new (tc_normal_form managed.now)) }
     // Memory is refused only where a series is incomplete before a frame or after it, or a packet
     // was delivered.
     ensures memory { IfErr result (λ fault. fault ≡ LinkFault.Memory
@@ -148,7 +154,9 @@ trait Formed: Deliverer {
         // packets.
         ensures fault { IfErr result (StopsWriting W.contents writer.old writer.new
             (form_of managed.now (channel_lists (Self.kind managed.now) delivered.now.lists))
-            ((writer.new ≡ writer.old) × HasSome (Self.kind managed.now) delivered.now.lists)) };
+            ((writer.new ≡ writer.old) × HasSome (Self.kind managed.now) delivered.now.lists)) }
+        ensures some { OnErr result
+            (form_of managed.now (channel_lists (Self.kind managed.now) delivered.now.lists) ≢ []) };
 }
 
 impl Formed for Extractor {
@@ -212,6 +220,8 @@ fn normalise<D: Formed, R: Read, W: Write>(
     ensures all_read { IfErr result (λ fault. fault ≡ LinkFault.Write
         → IsRead R.remaining reader.new) }
     ensures nothing { IfErr result (λ fault. fault ≢ LinkFault.Write → writer.new ≡ writer.old) }
+    ensures some { IfErr result (λ fault. fault ≡ LinkFault.Write → HasText R.remaining reader.old
+        reader.new (form_text (D.kind managed.now) (D.form_of managed.now))) }
     ensures memory { IfErr result (λ fault. fault ≡ LinkFault.Memory
         → MayRefuseMemoryAtSome R.remaining reader.old reader.new (D.kind managed.now).frames_of
         (MayRefuseStoreMemory (D.kind managed.now) (D.is_incomplete_at_last managed.now))) }

@@ -1,6 +1,6 @@
 -- What an engine does to the octets that a reader has left and a writer holds. Where a reader or a
 -- writer doesn't report its octets, these definitions speak of its faults alone.
-use Rattle.std.specs.Prelude.{◌≡◌, ℕ, ◌+◌, ◌≤◌, ◌<◌, List, [], ◌++◌, length, take, Option}
+use Rattle.std.specs.Prelude.{◌≡◌, ◌≢◌, ℕ, ◌+◌, ◌≤◌, ◌<◌, List, [], ◌++◌, length, take, Option}
 use Rattle.std.specs.Io.KnownBytes.{Consumes, IsAtEnd, Appends}
 use Rattle.sl_io.specs.declared.counted.Counted.{Counted}
 use Rattle.sl_io.specs.declared.fault.LinkFault.{LinkFault}
@@ -15,6 +15,12 @@ module _ {R : Type 0} (remaining : R → Option (List ℕ)) where
   -- the reader has nothing left
   abbrev pub IsRead : Counted R → Type 0
   IsRead new = IsAtEnd (remaining (stream_of new))
+
+  -- octets were read whose text isn't empty
+  pub record HasText (old new : Counted R) (text : List ℕ → List ℕ) : Type 0 where
+    pub octets : List ℕ
+    pub read : Reads old new octets
+    pub some : text octets ≢ []
 
 module _ {W : Type 0} (contents : W → Option (List ℕ)) where
   -- this text was written

@@ -1,6 +1,6 @@
 //! Single reads, single writes until a text is written, and the flush after them. None is tried again
 //! after an error, an interrupted call included.
-ghost use Rattle.std.specs.Prelude.{◌≡◌, ◌≢◌, ◌-◌, [], IfOk, IfErr, OnOk, length};
+ghost use Rattle.std.specs.Prelude.{◌≡◌, ◌≢◌, ◌-◌, [], IfOk, IfErr, OnErr, OnOk, length};
 ghost use Rattle.std.specs.Io.KnownBytes.{Keeps};
 ghost use Rattle.sl_io.specs.Counted.{stream_of, faults_of, HadOneFault};
 ghost use Rattle.sl_io.specs.Streams.{Reads, ReadsSome, StopsReading, WritesText, StopsWriting};
@@ -43,6 +43,8 @@ pub fn write_text<W: Write>(writer: &mut Counted<W>, text: &[u8]) -> Result<(), 
     ensures written { OnOk result (WritesText W.contents writer.old writer.new text.now) }
     // The last argument of `StopsWriting` says when the fault may be `Memory`: never, by ⊥.
     ensures fault { IfErr result (StopsWriting W.contents writer.old writer.new text.now ⊥) }
+    // Where nothing is to be written, no write fails.
+    ensures some { OnErr result (text.now ≢ []) }
 {
     let mut left = text;
     while !left.is_empty() {

@@ -72,6 +72,7 @@ pub fn write_form<F: Form, W: Write>(
     // Nothing is written where memory was refused, and it is refused only where there are pieces.
     ensures fault { IfErr result (StopsWriting W.contents writer.old writer.new (F.left form.old)
         ((writer.new ≡ writer.old) × (F.left form.old ≢ []))) }
+    ensures some { OnErr result (F.left form.old ≢ []) }
 {
     let mut text = Vec::new(alloc);
     let mut is_ready = false;
@@ -114,6 +115,7 @@ fn write_chunk<W: Write>(writer: &mut Counted<W>, waiting: &mut Vec<u8>) -> Resu
     ensures capacity { OnOk result (vec_capacity waiting.new ≡ vec_capacity waiting.old) }
     ensures fault { IfErr result
         (StopsWriting W.contents writer.old writer.new waiting.old.items ⊥) }
+    ensures some { OnErr result (waiting.old.items ≢ []) }
 {
     if waiting.len() <= CHUNK_SIZE {
         return Ok(());

@@ -4,6 +4,7 @@ use Rattle.std.proofs.KnownBytes.{Appends-nil}
 use Rattle.sl_tmflow.specs.Form.{AddsPiece}
 use Rattle.sl_tmflow.specs.NormalForm.{normal_form}
 use Rattle.sl_tmflow.specs.Recording.{tm_lists}
+use Rattle.sl_tcflow.proofs.lemmas.Form.Left.{none_after}
 use Rattle.sl_tcflow.specs.Recording.{tc_lists}
 use Rattle.sl_tcflow.specs.TcNormalForm.{tc_normal_form_of}
 use Rattle.sl_io.specs.declared.counted.Counted.{Counted}
@@ -56,9 +57,17 @@ module _ {W : Type 0} {contents : W → Option (List ℕ)} {old new : Counted W}
       record { written = a.written; parts = rw (append-nil, ← append_assoc a.written text' left, ← a.parts, append-nil) refl; writes = a.writes; no_fault = a.no_fault } in
       rw append-nil at (AddsText-trans contents old new new' [] (text ++ left) (text' ++ left) octets [] w more)
 
+  -- a form of which octets wait isn't empty
+  pub some_waiting : AddsText contents old new [] text octets → text ≢ [] → octets ≢ []
+  some_waiting w some none = some (none_after w.written text (sym w.parts ∙ none))
+
   -- a fault while what waits is written
   pub form_stopped : {new' : Counted W} {at_memory : Type 0} {fault : LinkFault} (left : List ℕ) → AddsText contents old new [] (text ++ left) octets → StopsWriting contents new new' text ⊥ fault → StopsWriting contents old new' octets at_memory fault
   form_stopped {new'} {fault = fault} left w s = writer_stops_waiting contents old new new' [] (text ++ left) octets [] octets fault w (stops_before left ⊥ s) (append-nil octets)
+
+-- nor is a form empty of which octets are still to come
+pub some_left : {W : Type 0} {contents : W → Option (List ℕ)} {old new : Counted W} {left octets : List ℕ} (text : List ℕ) → AddsText contents old new [] (text ++ left) octets → left ≢ [] → octets ≢ []
+some_left {left} text w some = some_waiting w (λ none. some (none_after text left none))
 
 -- ---- under the managed parameters
 

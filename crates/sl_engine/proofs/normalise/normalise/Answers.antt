@@ -12,6 +12,12 @@ returns-in_err-write-clause-fault g c =
     let d = c.in_ok-delivered.ensures.all in
     passed_up _ _ c.from_residual-in_err-write.ensures.1 (stops_at_form d.all (ap (g.D.Formed.form_of c.args.managed.now) (all_stored _ d.adds _ _ d.stored)) c.in_err-write.ensures.fault)
 
+pub returns-in_err-write-clause-some : goal.returns-in_err-write-clause-some
+returns-in_err-write-clause-some g c =
+    let d = c.in_ok-delivered.ensures.all in
+    let is = ap (g.D.Formed.form_of c.args.managed.now) (all_stored _ d.adds _ _ d.stored) in
+    passed_up _ _ c.from_residual-in_err-write.ensures.1 (λ _. record { octets = d.octets; read = d.all.read; some = λ none. c.in_err-write.ensures.some (is ∙ none) })
+
 pub returns-in_err-write-clause-memory : goal.returns-in_err-write-clause-memory
 returns-in_err-write-clause-memory g c =
     let d = c.in_ok-delivered.ensures.all in

@@ -1,5 +1,5 @@
 use Rattle.std.proofs.Common.{◌≡◌, ◌≢◌, ◌∙◌, List, [], ℕ, arith, length, subst, sym}
-use Rattle.std.proofs.lemmas.Result.{MatchResult-weaker, on_ok_weaker}
+use Rattle.std.proofs.lemmas.Result.{MatchResult-weaker, on_err_weaker, on_ok_weaker}
 use Rattle.std.proofs.lemmas.List.{take_all}
 use Rattle.sl_packet.specs.Delivered.{channel_count}
 use Rattle.sl_tcflow.specs.Fits.{FitsTc}
@@ -53,3 +53,10 @@ returns-clause-fault g c =
     rw (← all_of_channels p lists size) (MatchResult-weaker c.write_form.result c.write_form.ensures.fault (λ _ u. u) (λ fault s.
     memory_weaker (λ w. (w.0, λ none. w.1 (c.new-form.ensures.all ∙ none_at_all (tc_format q) q.spacecraft q.starts q.plain lists size (λ channel above below. none channel below))))
     (subst (λ t. StopsWriting g.W.Write.contents c.args.writer.now c.write_form.new.writer t ((c.write_form.new.writer ≡ c.args.writer.now) × (c.new-form.result ≢ [])) fault) is s)))
+
+pub returns-clause-some : goal.returns-clause-some
+returns-clause-some g c =
+    let p = c.args.managed.now in
+    let lists = c.args.delivered.now.lists in
+    let is = tc_form_is p (parameters_of c.managed.inside) lists c.new-form.result c.new-form.ensures.all c.managed.view_is in
+    rw (← all_of_channels p lists c.requires.1.size) (on_err_weaker c.write_form.result (λ some none. some (is ∙ none)) c.write_form.ensures.some)

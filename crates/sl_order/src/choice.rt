@@ -9,7 +9,7 @@ use std::alloc::AllocError;
 /// How much is chosen where the counts leave an order open.
 #[derive(Clone, Copy, Debug, PartialEq, Eq)]
 pub enum Care {
-    /// The likeliest way is taken.
+    /// The likeliest way is taken. Of several that are likely one recording's frames are left out.
     Likeliest,
     /// The order goes by the master channel frame counts between the anchors of all channels.
     ByPosition,
@@ -45,7 +45,9 @@ pub fn choose(
     match (care, known) {
         (_, Known::Sure | Known::Idle) if stretch.has_open_end() && care != Care::Likeliest => {}
         (_, Known::Sure) => return Ok(Choice::Nothing),
-        (Care::LeaveOut, _) if may_leave_out => return leave_out(stretch, order),
+        (Care::LeaveOut, _) | (Care::Likeliest, Known::Open) if may_leave_out => {
+            return leave_out(stretch, order);
+        }
         (Care::LeaveOut, _) | (_, Known::Undecided) | (Care::ByPosition, Known::Open) => {}
         (_, Known::Idle) => return Ok(Choice::Idle),
         (_, Known::Outage) => return Ok(Choice::Outage),

@@ -97,7 +97,9 @@ impl From<AllocError> for Unordered {
 ///
 /// Frames with equal octets whose payload comes once in either recording are the same. Between them
 /// the virtual channel frame counts number the frames of a channel. Where these don't tell an order,
-/// since a recording lost 256 frames in a row or more, the likeliest one is taken and counted.
+/// since a recording lost 256 frames in a row or more, the likeliest one is taken and counted. Where
+/// several are likely, between two frames of both, the frames of the recording that has more of them
+/// stand, and the others are left out.
 /// Recordings of 2^36 octets or more are refused as if memory were.
 pub fn find_order<S: BuildHasher + Copy>(
     alloc: Global,

@@ -55,7 +55,7 @@ pub enum Known {
     /// One lost 256 frames in a row or more, and the frames leave one way, or one is clearly the
     /// likeliest.
     Outage,
-    /// There are several ways, and one is taken.
+    /// There are several ways. The likeliest one is the order that is found.
     Open,
     /// No way fits the frames.
     Undecided,

@@ -3,7 +3,8 @@
 
 ghost use Rattle.sl_files.specs.Line.{IsLineOf, ends_reason, one_line};
 ghost use Rattle.sl_files.specs.Shown.{is_printable, shown, shown_letter};
-ghost use Rattle.std.specs.Prelude.{IfOk, OnOk, string_bytes, ◌++◌, ◌≡◌};
+ghost use Rattle.std.specs.Prelude.{Err, IfOk, IsTrue, OnOk, codes, nat_eq, string_bytes, ◌++◌, ◌≡◌};
+ghost use Rattle.std.specs.List.{starts_with};
 
 use std::alloc::{AllocError, Global};
 use std::fmt::Display;
@@ -79,9 +80,13 @@ static UNPRINTABLE: [(char, char); 29] = [
 ];
 
 /// Opens a file of this name that has a size; `shown` is the name as it stands in a line. No clause
-/// says which names are refused: the kit's contracts tell nothing of files.
-pub fn open_file<'a>(rt: &HostRuntime, name: &str, shown: &'a str) -> Result<File, Unreadable<'a>> {
-    if name.starts_with('-') {
+/// says which files are refused: the kit's contracts tell nothing of files.
+pub fn open_file<'a>(rt: &HostRuntime, name: &str, shown: &'a str) -> Result<File, Unreadable<'a>>
+    // A name that begins like an option is refused.
+    ensures option { IsTrue (starts_with nat_eq name.now (codes "-"))
+        → result ≡ Err (Unreadable.Option shown.entry) }
+{
+    if name.starts_with("-") {
         return Err(Unreadable::Option(shown));
     }
     let found = metadata(rt, name)?;
@@ -148,7 +153,8 @@ fn is_printable(letter: char) -> bool
 }
 
 /// Why words are refused, in one line: without their usage and the hint at the help, which follow in
-/// what clap says. A semicolon stands where blank lines stood between.
+/// what clap says. A semicolon stands for blank lines
+/// between its parts.
 pub fn one_line<D: Display>(alloc: Global, refusal: &D) -> Result<String, AllocError>
     ensures { IfOk result (λ line. IsLineOf (D.output refusal.now) (string_bytes line)) }
 {

@@ -9,7 +9,8 @@ use std::alloc::AllocError;
 /// How much is chosen where the counts leave an order open.
 #[derive(Clone, Copy, Debug, PartialEq, Eq)]
 pub enum Care {
-    /// The likeliest way is taken. Of several that are likely one recording's frames are left out.
+    /// The likeliest way is taken; where several are likely between two frames of both, one
+    /// recording's frames are left out.
     Likeliest,
     /// The order goes by the master channel frame counts between the anchors of all channels.
     ByPosition,

@@ -55,9 +55,8 @@ const ATTEMPTS: [(Care, bool); 5] = [
 pub struct Order {
     /// The fates of the frames of both recordings.
     pub fates: Vec<Fate>,
-    /// The stretches whose order the counts leave open, and, without error control field, the frames
-    /// near which a nearly equal one of the other recording stands. All frames of them stand in the
-    /// merge.
+    /// The stretches whose order is a guess, and, without error control field, the frames near which
+    /// a nearly equal one of the other recording stands. All frames of them stand in the merge.
     pub open: u64,
     /// The stretches of which one recording's frames are left out, and, without error control field,
     /// the frames that are left out amid a run of the other recording.

@@ -55,7 +55,8 @@ pub enum Known {
     /// One lost 256 frames in a row or more, and the frames leave one way, or one is clearly the
     /// likeliest.
     Outage,
-    /// There are several ways. The likeliest one is the order that is found.
+    /// There are several ways, and the likeliest is found; or there is an open end, at which counts
+    /// and positions differ, and the order of the counts is.
     Open,
     /// No way fits the frames.
     Undecided,

@@ -29,7 +29,7 @@ pub struct Turn {
     pub counts: FateCounts,
     /// Stretches in which 256 frames or more of a channel were lost in a row, in the likeliest order.
     pub outages: u64,
-    /// Stretches whose order the counts leave open.
+    /// Stretches whose order is a guess.
     pub open: u64,
     /// Stretches of which the frames of one recording are left out.
     pub undecided: u64,

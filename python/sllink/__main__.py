@@ -4,8 +4,8 @@ comes next.
     python3 -m sllink tm|tc RECORDING --scid N [OPTION..]
 
 The options are those of sllink. Status: 0; 1 with one line on the standard error that asks whether the options are right,
-where totals and lines of check say that they may be wrong; 2 with one line where the recording can't be read, or more
-than once, or sllink refuses something or stops.
+where its listings say that they may be wrong; 2 with one line where the recording can't be read, or not more than once,
+or changes meanwhile, or sllink refuses something or stops.
 
 The program is $SLLINK, else `sllink` on the PATH, else the one installed with this module or built in the repository.
 """
@@ -13,7 +13,7 @@ The program is $SLLINK, else `sllink` on the PATH, else the one installed with t
 from typing import List
 
 from ._counts import counted
-from ._questions import questions
+from ._questions import SILENT, questions
 from ._survey import Survey
 from .tool import Refused, State, about, complain, is_option, require_name, run, shown
 
@@ -29,7 +29,7 @@ def main(words: List[str]) -> int:
         found = Survey(kind, recording, options, State(recording))
     for count in counted(found.tallies):
         print(count)
-    asked = questions(found)
+    asked = questions(found) or [SILENT] * (not found.packets)
     if asked:
         complain(NAME, f"{shown(recording)}: {' '.join(asked)}")
     return 1 if asked else 0

@@ -1,5 +1,5 @@
-"""The questions about the options of a recording, by totals and lines of `check`: what a page and the module's command
-ask."""
+"""The questions about the options of a recording, by totals, lines of `check` and verdicts of FARM-1: what a page and
+the module's command ask."""
 
 from typing import TYPE_CHECKING, List
 
@@ -14,6 +14,7 @@ ALONE = {
     "tc": "Does the recording hold TC frames alone, with CLTUs and randomisation taken off?",
 }
 REST = {"tm": "Is --tm-length right?", "tc": "Is --tc-fecf right?"}
+SILENT = "No packet is delivered. Are the options right?"
 DISCARDED = ("FARM-1 discards most frames of type AD. Does the recording begin in mid-pass, and does --vr-of name the "
              "V(R) of that moment for each virtual channel?")
 
@@ -37,7 +38,7 @@ def questions(survey: "Survey") -> List[str]:
     if survey.kind == "tc" and survey.anomalies["outside"] + survey.anomalies["refused"] > accepted:
         asked.append(DISCARDED)
     if read > 0 and not survey.packets and not asked:
-        asked.append("No packet is delivered. Are the options right?")
+        asked.append(SILENT)
     if asked:
         said = identified(survey.recording)
         asked[-1] += f" sllink-identify says: {said}." if said else " sllink-identify says what a recording is."

@@ -1,4 +1,4 @@
-"""What `show`, `check` and `packets` have for a recording, added up for a page and its picture.
+"""What `show`, `check` and `packets` have for a recording, added up for a page, its picture and a command.
 
 Of a long recording no line is kept but the first ones of `check`, so a survey takes no more memory for it than for a
 short one, but for each APID that has packets.

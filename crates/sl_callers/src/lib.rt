@@ -1,5 +1,5 @@
-//! Callers with contracts of their own, which public clauses and laws of the libraries prove. A
-//! wrong body of each is in `edits/`; what they answer is tested in `sl_tests`. Here stand those of
+//! Callers with contracts of their own, which public clauses and laws of the libraries prove. The
+//! gate refuses a wrong body of each; what they answer is tested in `sl_tests`. Here stand those of
 //! FARM-1. They are lent a FARM-1 and a window: nothing is known of how these were made.
 #![tactic(auto)]
 

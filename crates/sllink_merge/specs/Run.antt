@@ -8,7 +8,7 @@ use Rattle.sl_merge.specs.Fates.{merged_octets, taken_of}
 use Rattle.sl_merge.specs.Merge.{is_merge}
 use Rattle.sl_merge.specs.declared.counts.FateCounts.{FateCounts}
 use Rattle.sl_merge.specs.declared.fate.Fate.{Fate}
-use Rattle.sl_order.specs.declared.Unordered.TheVariants.{Apart}
+use Rattle.sllink_merge.specs.declared.order.Unordered.TheVariants.{Apart}
 use Rattle.sllink_merge.specs.declared.command_line.Link.{Link}
 use Rattle.sllink_merge.specs.declared.merge.Recording.{Recording}
 use Rattle.sllink_merge.specs.declared.merge.Turn.{Turn}

@@ -7,6 +7,7 @@ ghost use Rattle.std.specs.IoError.{error_kind};
 mod arrange;
 mod command_line;
 mod merge;
+mod order;
 mod reading;
 mod run;
 mod telling;

@@ -5,9 +5,9 @@ ghost use Rattle.sllink_merge.specs.Run.{IsMergedBy, IsRefusedFor, MergeAllTo, M
 ghost use Rattle.sllink_merge.specs.Run.{counts_of, is_sure, octets_of};
 
 use crate::command_line::Link;
+use crate::order::{Order, Unordered, find_order};
 use crate::totals::packets_of;
 use sl_merge::{Fate, FateCounts, count_fates, is_merge_tm, merged_recording};
-use sl_order::{Order, Unordered, find_order};
 use std::alloc::{AllocError, Global};
 use std::hash::BuildHasher;
 use thiserror::Error;

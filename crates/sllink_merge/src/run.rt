@@ -6,10 +6,10 @@ ghost use Rattle.sllink_merge.specs.Run.{HasEnded, HasStopped, refused_status, s
 
 use crate::command_line::Link;
 use crate::merge::{Merge, Recording, Refused, Unmerged, merge_all};
+use crate::order::Unordered;
 use crate::telling::tell_turns;
 use sl_io::{flush, write_text};
 use sl_link::{Counted, LinkFault};
-use sl_order::Unordered;
 use std::alloc::Global;
 use std::hash::BuildHasher;
 use std::io::Write;

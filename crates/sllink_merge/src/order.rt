@@ -3,8 +3,6 @@
 //! [`find_order`] looks for the fates of a merge. What it finds is checked by
 //! [`is_merge_tm`](sl_merge::is_merge_tm) and not trusted, so nothing is proved of its functions but
 //! that they are safe and return.
-#![tactic(auto)]
-
 mod anchors;
 mod channel;
 mod choice;
@@ -22,20 +20,20 @@ mod taken;
 mod ways;
 mod weave;
 
-use anchors::set_anchors;
-use choice::Care;
-use copies::count_copies;
-use lanes::{Choices, Frames, order_lanes};
-use numbers::Both;
-use positions::set_positions;
-use recording::Recording;
-use seen::seen_frames;
+use crate::order::anchors::set_anchors;
+use crate::order::choice::Care;
+use crate::order::copies::count_copies;
+use crate::order::lanes::{Choices, Frames, order_lanes};
+use crate::order::numbers::Both;
+use crate::order::positions::set_positions;
+use crate::order::recording::Recording;
+use crate::order::seen::seen_frames;
+use crate::order::weave::weave;
 use sl_merge::Fate;
 use sl_tmframe::TmShape;
 use std::alloc::{AllocError, Global};
 use std::hash::BuildHasher;
 use thiserror::Error;
-use weave::weave;
 
 /// The most octets that both recordings may have: fewer than 2^31 frames of 32 octets.
 const MOST_OCTETS: usize = 1 << 36;
@@ -51,7 +49,7 @@ const ATTEMPTS: [(Care, bool); 5] = [
 ];
 
 /// The order that was found, and what of it is a guess.
-#[derive(Debug, Drop)]
+#[derive(Drop)]
 pub struct Order {
     /// The fates of the frames of both recordings.
     pub fates: Vec<Fate>,

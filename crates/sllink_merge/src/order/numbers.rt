@@ -1,8 +1,8 @@
 //! The order of frames by their numbers.
-use crate::marks::{Mark, Numbered, step};
-use crate::recording::{Recording, are_near};
-use crate::stretch::Stretch;
-use crate::taken::Left;
+use crate::order::marks::{Mark, Numbered, step};
+use crate::order::recording::{Recording, are_near};
+use crate::order::stretch::Stretch;
+use crate::order::taken::Left;
 use sl_merge::Fate;
 use std::alloc::AllocError;
 

@@ -1,7 +1,7 @@
 //! Where frames stand between two anchors, by the master channel frame counts.
-use crate::lanes::Frames;
-use crate::marks::step;
-use crate::seen::{Role, Seen};
+use crate::order::lanes::Frames;
+use crate::order::marks::step;
+use crate::order::seen::{Role, Seen};
 use std::alloc::{AllocError, Global};
 
 /// The frames of a recording between two anchors.

@@ -1,6 +1,6 @@
 //! One order of all channels.
-use crate::lanes::Frames;
-use crate::seen::Seen;
+use crate::order::lanes::Frames;
+use crate::order::seen::Seen;
 use sl_merge::Fate;
 use std::alloc::{AllocError, Global};
 

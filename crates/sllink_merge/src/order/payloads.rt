@@ -1,5 +1,5 @@
 //! The payloads of a recording, each with the frame that has it first.
-use crate::recording::{Payload, Recording};
+use crate::order::recording::{Payload, Recording};
 use std::alloc::{AllocError, Global};
 use std::hash::{BuildHasher, Hasher};
 

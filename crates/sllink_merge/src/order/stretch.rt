@@ -1,8 +1,8 @@
 //! Frames of both recordings on one channel of which nothing but the counts shows the order.
-use crate::marks::{Ends, Mark, NO_OUTAGE, Numbered, Outage, step, width};
-use crate::numbers::{Both, order_by_number};
-use crate::taken::{agrees_with_positions, have_common_idle, make_same};
-use crate::ways::{Way, ways};
+use crate::order::marks::{Ends, Mark, NO_OUTAGE, Numbered, Outage, step, width};
+use crate::order::numbers::{Both, order_by_number};
+use crate::order::taken::{agrees_with_positions, have_common_idle, make_same};
+use crate::order::ways::{Way, ways};
 use sl_merge::Fate;
 use std::alloc::{AllocError, Global};
 use std::mem;
@@ -46,7 +46,7 @@ impl Stretch<'_> {
 }
 
 /// What is known of an order.
-#[derive(Clone, Copy, Debug, PartialEq, Eq)]
+#[derive(Clone, Copy)]
 pub enum Known {
     /// The counts tell it.
     Sure,

@@ -1,12 +1,12 @@
 //! The frames of one channel, from one place of one order to the next.
-use crate::marks::{Ends, Mark, behind, count_in, front};
-use crate::stretch::Stretch;
-use crate::taken::{last_count, push_times};
+use crate::order::marks::{Ends, Mark, behind, count_in, front};
+use crate::order::stretch::Stretch;
+use crate::order::taken::{last_count, push_times};
 use sl_merge::Fate;
 use std::alloc::AllocError;
 
 /// The frames of a channel that are next in both recordings, by their brackets.
-#[derive(Clone, Copy, Debug, PartialEq, Eq)]
+#[derive(Clone, Copy)]
 pub enum Group {
     /// There are none.
     End,

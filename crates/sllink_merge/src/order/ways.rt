@@ -1,5 +1,5 @@
 //! Where a recording may have lost 256 frames of a channel in a row, or more.
-use crate::marks::{Ends, Mark, NO_OUTAGE, Outage, step, width};
+use crate::order::marks::{Ends, Mark, NO_OUTAGE, Outage, step, width};
 use std::alloc::{AllocError, Global};
 
 /// In how many gaps of each recording an outage is looked for, so that the time stays linear.

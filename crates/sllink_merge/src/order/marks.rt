@@ -1,5 +1,5 @@
 //! The frames of one channel, and the distances that their counts tell.
-use crate::seen::Seen;
+use crate::order::seen::Seen;
 use std::alloc::{AllocError, Global};
 
 /// A frame of a recording on one channel.

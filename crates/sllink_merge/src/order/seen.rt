@@ -1,12 +1,12 @@
 //! What of the frames of a recording their order needs.
 ghost use Rattle.std.specs.Prelude.{◌≡◌, length};
 
-use crate::recording::Recording;
+use crate::order::recording::Recording;
 use sl_tmframe::{TmFrame, TmShape};
 use std::alloc::{AllocError, Global};
 
 /// What a frame is to the order.
-#[derive(Clone, Copy, Debug, PartialEq, Eq)]
+#[derive(Clone, Copy, PartialEq)]
 pub enum Role {
     /// It is skipped, and left out.
     Skipped,

@@ -1,12 +1,12 @@
 //! The orders of all channels.
-use crate::channel::Channel;
-use crate::choice::{Care, Choice, choose, is_idle};
-use crate::marks::{Mark, marks_on};
-use crate::misplaced::leave_misplaced;
-use crate::numbers::Both;
-use crate::seen::{Role, Seen};
-use crate::stretch::{Stretch, order_stretch};
-use crate::taken::Left;
+use crate::order::channel::Channel;
+use crate::order::choice::{Care, Choice, choose, is_idle};
+use crate::order::marks::{Mark, marks_on};
+use crate::order::misplaced::leave_misplaced;
+use crate::order::numbers::Both;
+use crate::order::seen::{Role, Seen};
+use crate::order::stretch::{Stretch, order_stretch};
+use crate::order::taken::Left;
 use sl_merge::Fate;
 use std::alloc::{AllocError, Global};
 
@@ -37,7 +37,7 @@ fn put_back(frames: &mut [Seen]) {
 }
 
 /// For how many stretches something was chosen.
-#[derive(Clone, Copy, Debug, PartialEq, Eq)]
+#[derive(Clone, Copy)]
 pub struct Choices {
     pub idle: u64,
     pub outages: u64,

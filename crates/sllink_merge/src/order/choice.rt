@@ -1,13 +1,13 @@
 //! What is chosen where the counts don't tell an order.
-use crate::marks::step;
-use crate::numbers::{Both, order_by_bracket, order_by_position};
-use crate::stretch::{Known, Stretch};
-use crate::taken::{Left, push_times};
+use crate::order::marks::step;
+use crate::order::numbers::{Both, order_by_bracket, order_by_position};
+use crate::order::stretch::{Known, Stretch};
+use crate::order::taken::{Left, push_times};
 use sl_merge::Fate;
 use std::alloc::AllocError;
 
 /// How much is chosen where the counts leave an order open.
-#[derive(Clone, Copy, Debug, PartialEq, Eq)]
+#[derive(Clone, Copy, PartialEq)]
 pub enum Care {
     /// The likeliest way is taken; where several are likely between two frames of both, one
     /// recording's frames are left out.
@@ -20,7 +20,7 @@ pub enum Care {
 }
 
 /// What was chosen for a stretch.
-#[derive(Clone, Copy, Debug, PartialEq, Eq)]
+#[derive(Clone, Copy, PartialEq)]
 pub enum Choice {
     /// Nothing: its order is known.
     Nothing,

@@ -1,5 +1,5 @@
 //! Frames without error control field of which one is a damaged copy of the other.
-use crate::numbers::Both;
+use crate::order::numbers::Both;
 use sl_merge::Fate;
 
 /// Among how many of the frames that only the other recording has a copy is looked for.

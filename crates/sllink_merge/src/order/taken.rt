@@ -1,7 +1,7 @@
 //! The frames that fates take.
-use crate::marks::Mark;
-use crate::numbers::Both;
-use crate::stretch::Stretch;
+use crate::order::marks::Mark;
+use crate::order::numbers::Both;
+use crate::order::stretch::Stretch;
 use sl_merge::Fate;
 use std::alloc::AllocError;
 

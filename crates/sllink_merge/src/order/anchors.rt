@@ -1,15 +1,15 @@
 //! Frames that can be taken for the same in both recordings.
-use crate::Unordered;
-use crate::lanes::Frames;
-use crate::numbers::Both;
-use crate::payloads::{Kept, Payloads};
-use crate::recording::Payload;
-use crate::seen::{Role, Seen};
+use crate::order::Unordered;
+use crate::order::lanes::Frames;
+use crate::order::numbers::Both;
+use crate::order::payloads::{Kept, Payloads};
+use crate::order::recording::Payload;
+use crate::order::seen::{Role, Seen};
 use std::alloc::{AllocError, Global};
 use std::hash::BuildHasher;
 
 /// Where the other recording has the payload of a frame.
-#[derive(Clone, Copy, Debug, PartialEq, Eq)]
+#[derive(Clone, Copy)]
 enum Twin {
     /// Nowhere.
     Nowhere,

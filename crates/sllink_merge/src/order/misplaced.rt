@@ -1,6 +1,6 @@
 //! Frames amid a run of the other recording, which have a damaged count or virtual channel.
-use crate::marks::Mark;
-use crate::taken::Left;
+use crate::order::marks::Mark;
+use crate::order::taken::Left;
 use sl_merge::Fate;
 use std::alloc::{AllocError, Global};
 

@@ -32,7 +32,7 @@ SQUARE, CIRCLE, ARROW = "M-4-4H4V4H-4Z", "M-4 0a4 4 0 1 0 8 0a4 4 0 1 0-8 0Z", "
 CHECK_WORDS: Dict[str, Word] = {
     "skip": Word("frame skipped", "#7d1128", "#e05c7a", "skipped"),
     "gap": Word("the frame count isn't the one that comes next on the channel", "#d00000", "#ff7a6b",
-                "gap in the frame counts, larger the more frames are lost", TRIANGLE),
+                "gap in the frame counts, larger the more are missing", TRIANGLE),
     "dropped": Word("incomplete packet dropped", "#d00000", "#ff7a6b", "incomplete packet or series dropped", CROSS,
                     meaning_tc="incomplete series of segments dropped"),
     "opaque": Word(

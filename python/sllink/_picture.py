@@ -59,7 +59,7 @@ def box(x: float, y: float, wide: float, high: float, kind: str) -> str:
 
 
 class Sign(NamedTuple):
-    """A mark as it is drawn: where, the words beside it, the lines that it stands for, and the frames lost in it."""
+    """A mark as it is drawn: where, the words beside it, the lines that it stands for, and the counts missing in it."""
 
     x: float
     words: str = ""
@@ -124,12 +124,12 @@ class Picture:
                 *[text(LEFT - 10, y + 23, below, anchor="end", size=10, kind="soft")] * bool(below)]
 
     def _end(self, row: int, y: int) -> List[str]:
-        """What stands at the end of a row: the sum of the lost frames, and what is incomplete."""
+        """What stands at the end of a row: the sum of the missing counts, and what is incomplete."""
         lost, opened = self.survey.lost().get(row), self.survey.marks.get((row, "open"))
         middle = y + CELL / 2
         parts = []
         if lost is not None:
-            parts.append(text(RIGHT + 8, middle + (-2 if opened else 4), f"{lost:,} lost", size=11,
+            parts.append(text(RIGHT + 8, middle + (-2 if opened else 4), f"{lost:,} missing", size=11,
                               weight="bold", kind="lost"))
         if opened:
             y_open = middle + (0 if lost is None else 8)
@@ -226,7 +226,7 @@ class Picture:
         more = [f"and {left:,} more" if mark.lines else f"lines: {left:,}"] if left else []
         words = ""
         if what == "gap":
-            more.append(f"frames lost: {mark.lost}")
+            more.append(f"counts missing: {mark.lost}")
         elif mark.number == 1 and mark.lines:
             last = mark.lines[0].split()
             words = f"{last[-1]} octets" if "octets" in last else " ".join(last[4:])
@@ -276,13 +276,13 @@ class Picture:
 
 
 def sums_beside(marks: Sequence[Sign], follow: Sequence[float]) -> List[str]:
-    """The frames lost, beside marks of gaps: of each mark, or of several where there is no room between them. The sum
+    """The counts missing, beside marks of gaps: of each mark, or of several where there is no room between them. The sum
     of all of them stands at the end of the row already."""
     words, summed = [], 0
     for mark, following in zip(marks, follow):
         summed += mark.lost
-        fits = mark.x + 10 + width(f"{summed} lost", 10) < following - 10
-        words.append(f"{summed} lost" if fits else "")
+        fits = mark.x + 10 + width(f"{summed} missing", 10) < following - 10
+        words.append(f"{summed} missing" if fits else "")
         summed = 0 if fits else summed
     return words if len(words) == 1 or any(words[:-1]) else [""] * len(words)
 

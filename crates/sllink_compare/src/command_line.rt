@@ -104,11 +104,24 @@ Exit status:
 
 /// What the words ask for; the first word is the program's name.
 pub fn parse<'a>(alloc: Global, words: &'a [String]) -> Result<Asked<'a>, Refusal> {
-    // Options that one recording has by itself may be missing here.
-    let options = optional(alloc, link_options(alloc)?)?;
-    let mut command = with_options(alloc, options)?;
+    let mut command = relaxed_command(alloc)?;
     let matches = command.try_get_matches_from_mut(words)?;
-    let allowed = allowed_of(alloc, &matches)?;
+    asked_of(alloc, words, &matches)
+}
+
+// The program's options. Those of the link, which one recording may have by itself, may be missing.
+fn relaxed_command<'a>(alloc: Global) -> Result<Command<'a>, AllocError> {
+    let options = optional(alloc, link_options(alloc)?)?;
+    with_options(alloc, options)
+}
+
+// What the words ask for, by the options that they name.
+fn asked_of<'a>(
+    alloc: Global,
+    words: &'a [String],
+    matches: &ArgMatches<'a>,
+) -> Result<Asked<'a>, Refusal> {
+    let allowed = allowed_of(alloc, matches)?;
     let first = managed_with(alloc, words, FIRST_OPTIONS, matches.get_str(FIRST_OPTIONS))?;
     let second = managed_with(
         alloc,
@@ -131,20 +144,29 @@ pub fn parse<'a>(alloc: Global, words: &'a [String]) -> Result<Asked<'a>, Refusa
 
 // The program's options, with these of the link.
 fn with_options<'a>(alloc: Global, options: Vec<Arg<'a>>) -> Result<Command<'a>, AllocError> {
+    let command = compare_command(alloc)?.args(options)?;
+    command.args(own_options(alloc)?)
+}
+
+// The program, with its kind and its files.
+fn compare_command<'a>(alloc: Global) -> Result<Command<'a>, AllocError> {
     let command = Command::new(alloc, "sllink-compare")
         .about("Say which packets only one of two recordings has")
         .version(VERSION)
         .override_usage(USAGE)
         .after_help(EXAMPLES);
-    let kind = Arg::new(alloc, KIND)
+    let command = command.arg(kind(alloc))?;
+    let command = command.arg(file(alloc, FIRST, "A", "File with the first recording"))?;
+    command.arg(file(alloc, SECOND, "B", "File with the second recording"))
+}
+
+// The kind of the frames.
+fn kind<'a>(alloc: Global) -> Arg<'a> {
+    Arg::new(alloc, KIND)
         .value_name("KIND")
         .help("Transfer frames of the recordings: TM, the way down, or TC, the way up")
         .value_parser(KINDS.as_slice())
-        .required(true);
-    let command = command.arg(kind)?;
-    let command = command.arg(file(alloc, FIRST, "A", "File with the first recording"))?;
-    let command = command.arg(file(alloc, SECOND, "B", "File with the second recording"))?;
-    command.args(options)?.args(own_options(alloc)?)
+        .required(true)
 }
 
 // A file. Its name may begin like an option: then it is refused later.
@@ -181,10 +203,11 @@ fn text_option<'a>(alloc: Global, name: &'a str, unit: &'a str, help: &'a str) -
 
 // These options, none of which is required.
 fn optional<'a>(alloc: Global, options: Vec<Arg<'a>>) -> Result<Vec<Arg<'a>>, AllocError> {
-    options
-        .into_iter()
-        .map(|option| option.required(false))
-        .collect(alloc)
+    let mut optional = Vec::new(alloc);
+    for option in options {
+        optional.push(option.required(false))?;
+    }
+    Ok(optional)
 }
 
 // The recording whose options are those of the command line, and with them the text of the option
@@ -198,8 +221,13 @@ fn managed_with<'w>(
     let own: Vec<&str> = text.unwrap_or("").split_whitespace().collect(alloc)?;
     require_options(alloc, name, own.as_slice())?;
     let words = with_own(alloc, words, own.as_slice())?;
+    managed_by(alloc, words.as_slice())
+}
+
+// The recording whose options these words name.
+fn managed_by<'w>(alloc: Global, words: &'w [&'w str]) -> Result<Managed, Refusal> {
     let mut command = with_options(alloc, link_options(alloc)?)?;
-    let matches = command.try_get_matches_from_mut(words.as_slice())?;
+    let matches = command.try_get_matches_from_mut(words)?;
     managed_of_options(&matches).map_err(Refusal::Managed)
 }
 
@@ -233,19 +261,31 @@ fn require_options<'w>(
         let line = String::from_str(alloc, "unexpected argument '--' found")?;
         return Err(Refusal::Text(name, line));
     }
-    let command = Command::new(alloc, "sllink-compare")
-        .no_binary_name(true)
-        .disable_help_flag(true);
-    let options = optional(alloc, link_options(alloc)?)?;
-    let mut command = command.args(options)?;
-    let Err(error) = command.try_get_matches_from_mut(own) else {
-        return Ok(());
-    };
-    if error.kind() == ErrorKind::OutOfMemory {
-        return Err(Refusal::Words(error));
+    let mut command = options_command(alloc)?;
+    match command.try_get_matches_from_mut(own) {
+        Ok(_) => Ok(()),
+        Err(error) => Err(refusal_of(alloc, name, error)),
     }
-    let line = first_line(alloc, &error)?;
-    Err(Refusal::Text(name, line))
+}
+
+// A command that has the options of the link alone.
+fn options_command<'a>(alloc: Global) -> Result<Command<'a>, AllocError> {
+    let options = optional(alloc, link_options(alloc)?)?;
+    Command::new(alloc, "sllink-compare")
+        .no_binary_name(true)
+        .disable_help_flag(true)
+        .args(options)
+}
+
+// Why the text of the option of this name is refused.
+fn refusal_of(alloc: Global, name: &'static str, error: clap::Error) -> Refusal {
+    if error.kind() == ErrorKind::OutOfMemory {
+        return Refusal::Words(error);
+    }
+    match first_line(alloc, &error) {
+        Ok(line) => Refusal::Text(name, line),
+        Err(refused) => Refusal::from(refused),
+    }
 }
 
 // The first line of what a refusal says.

@@ -8,8 +8,9 @@
     -V, --version  Print the version
 
 The first line says what it is, and the last ones are commands of a shell: sllink-frames writes the frames into a file
-beside it, where they aren't all of it, and sllink check reads them. Of two recordings, the last line compares them.
-Where the signs aren't plain, or frames shift, the last line begins with "can't say:" and says why.
+beside it, where they aren't all of it, and sllink check reads them. Of two recordings, the last line compares them, and
+the one before it merges TM frames of one format. Where the signs aren't plain, or frames shift, the last line begins
+with "can't say:" and says why.
 
 Status: 0 there are commands, with --options words; 1 there are none; 2 the recording can't be read, with a line on the
 standard error. It has to be a file; one whose name begins with a dash is ./-NAME, or comes after --. Nothing else is
@@ -22,7 +23,7 @@ import os
 import sys
 from typing import List
 
-from .._identify import compared, identify
+from .._identify import commands_of_both, identify
 from ..tool import Refused, require_name, shown
 
 
@@ -37,6 +38,6 @@ def main(words: List[str]) -> int:
         raise Refused("one recording is wanted, or two without --options; usage: sllink-identify [--options] RECORDING")
     found = [identify(name) for name in names]
     lines = [" ".join(found[0].words)] if alone else [f"{shown(name)}: {it}" for name, it in zip(names, found)]
-    lines += [compared(*found)] if len(found) > 1 else []
+    lines += commands_of_both(*found) if len(found) > 1 else []
     sys.stdout.buffer.write(os.fsencode("".join(f"{line}\n" for line in lines if line)))
     return 0 if all(it.words if alone else it.commands for it in found) and not lines[-1].startswith("can't say") else 1

@@ -55,16 +55,19 @@ def identify(recording: Union[str, bytes, "os.PathLike[str]", "os.PathLike[bytes
         return identification(name, file.fileno())
 
 
-def compared(one: Identification, other: Identification) -> str:
-    """The command line that compares two recordings, by those that check them, or why there is none."""
+def commands_of_both(one: Identification, other: Identification) -> List[str]:
+    """The command lines that merge two recordings, if they are TM frames of one format, and compare them, by those that
+    check them; or why there are none."""
     checks = [line[13:].partition(" < ") for it in (one, other) for line in it.commands if line[:13] == "sllink check "]
     if len(checks) != 2 or checks[0][0].split()[:3] != checks[1][0].split()[:3]:
-        return "can't say: these aren't two recordings of one spacecraft that sllink reads"
+        return ["can't say: these aren't two recordings of one spacecraft that sllink reads"]
     (first, _, one_name), (second, _, other_name) = checks
     kind, *options = first.split()
+    files = f"{kind} {one_name} {other_name}"
+    merges = [f"sllink-merge {files} {' '.join(options)} > both.tm"] * (kind == "tm" and first == second)
     if first != second:
         options[2:] = [f"--{side}-options '{' '.join(it.split()[3:])}'" for side, it in (("a", first), ("b", second))]
-    return f"sllink-compare {kind} {one_name} {other_name} {' '.join(options)}"
+    return [*merges, f"sllink-compare {files} {' '.join(options)}"]
 
 
 def quoted(name: str, ending: str = "") -> str:

@@ -1,5 +1,6 @@
 -- Worked examples. The frames have 12 octets: no definition here asks for more.
 use Rattle.std.proofs.Common.{◌≡◌, ◌+◌, ◌*◌, ◌++◌, List, ℕ, Bool, true, false, None, [], ◌∷◌, refl}
+use Rattle.sl_fields.specs.Fecf.{fecf_of, register_of}
 use Rattle.sl_tmframe.specs.TmFrame.{TmFormat}
 use Rattle.sl_merge.specs.declared.fate.Fate.{Fate}
 use Rattle.sl_merge.specs.declared.fate.Fate.TheVariants.{Both, First, FirstLeftOut, Second, SecondLeftOut}
@@ -36,6 +37,22 @@ damaged = 64 ∷ 16 ∷ 0 ∷ 7 ∷ 0 ∷ 0 ∷ 0 ∷ 0 ∷ 0 ∷ 0 ∷ 0 ∷ 0 
 abbrev merges : List ℕ → List ℕ → List Fate → Bool
 merges one other fates = is_merge format 1 one other fates
 
+-- the same of frames with an error control field, and such frames: the last two octets are the field
+abbrev checked : List ℕ → List ℕ → List Fate → Bool
+checked one other fates = is_merge (record { len = 12; fecf = true }) 1 one other fates
+
+abbrev right : ℕ → ℕ → ℕ → ℕ → List ℕ
+right count octet high low = 0 ∷ 16 ∷ 0 ∷ count ∷ 0 ∷ 0 ∷ octet ∷ 0 ∷ 0 ∷ 0 ∷ high ∷ low ∷ []
+
+abbrev right_a : List ℕ
+right_a = right 0 1 196 115
+
+abbrev right_b : List ℕ
+right_b = right 1 2 231 206
+
+abbrev right_d : List ℕ
+right_d = right 3 4 160 180
+
 record Facts : Type 0 where
   -- each lost one frame of the channel
   lost_one : merges (a ++ b ++ d) (a ++ c ++ d) (Both ∷ First ∷ Second ∷ Both ∷ []) ≡ true
@@ -58,6 +75,10 @@ record Facts : Type 0 where
   -- between two frames of both as many may be left out as stand of the other
   for_others : merges (a ++ b ++ d) (a ++ c ++ d) (Both ∷ FirstLeftOut ∷ Second ∷ Both ∷ []) ≡ true
   for_none : merges (a ++ b ++ d) (a ++ d) (Both ∷ FirstLeftOut ∷ Both ∷ []) ≡ false
+  -- a frame without room may have a damaged count where it has no error control field
+  damaged_count : merges (a ++ d ++ b) (a ++ b) (Both ∷ FirstLeftOut ∷ Both ∷ []) ≡ true
+  right_count : checked (right_a ++ right_d ++ right_b) (right_a ++ right_b) (Both ∷ FirstLeftOut ∷ Both ∷ []) ≡ false
+  right_frames : checked (right_a ++ right_b ++ right_d) (right_a ++ right_b) (Both ∷ Both ∷ First ∷ []) ≡ true
   kept : first_kept 12 (a ++ b ++ d) (a ++ c ++ d) (Both ∷ FirstLeftOut ∷ Second ∷ Both ∷ []) ≡ a ++ d
   kept_of_second : second_kept 12 (a ++ b ++ d) (a ++ c ++ d) (Both ∷ FirstLeftOut ∷ Second ∷ Both ∷ []) ≡ a ++ c ++ d
   -- a damaged frame stands nowhere, and is on no channel; what follows the last frame belongs to no merge
@@ -70,6 +91,7 @@ record Facts : Type 0 where
   idle : merges (frame 0 0 0 ++ frame 0 1 0 ++ a) (a ++ frame 0 0 0) (First ∷ First ∷ Both ∷ Second ∷ []) ≡ true
 
 facts : Facts
+unfolding fecf_of register_of
 facts =
     record {
       lost_one = refl;
@@ -85,6 +107,9 @@ facts =
       not_repeated = refl;
       for_others = refl;
       for_none = refl;
+      damaged_count = refl;
+      right_count = refl;
+      right_frames = refl;
       kept = refl;
       kept_of_second = refl;
       skipped = refl;

@@ -18,7 +18,7 @@ use Rattle.sl_tmflow.proofs.lemmas.Merge.{recorded_are_delivered}
 use Rattle.sl_merge.specs.declared.fate.Fate.{Fate}
 use Rattle.sl_merge.specs.declared.fate.Fate.TheVariants.{Both, First, FirstLeftOut, Second, SecondLeftOut}
 use Rattle.sl_merge.specs.Fates.{Fated, exchanged, fated, fits_both, kept_first, octets_of, of_first, standing, stands, taken, taken_of}
-use Rattle.sl_merge.specs.Merge.{LosesNoPacket, are_read, count_of, follows_last, has_reasons, is_merge, is_merge_on, is_none_twice, is_unbroken, keeps_first, on_channel, vc_in, vc_of}
+use Rattle.sl_merge.specs.Merge.{LosesNoPacket, are_read, count_of, few, follows_last, has_reasons, is_merge, is_merge_on, is_none_twice, is_unbroken, keeps_first, on_channel, vc_in, vc_of}
 use Rattle.sl_merge.proofs.CountLemmas.{channel_exchanged}
 
 -- ---- the frames of a channel, by a test of their octets
@@ -252,12 +252,12 @@ packets_stay format spacecraft one other fates positive merges vc below =
     let all = and_parts (fits_both format.len one other fates) (are_read format spacecraft items && list_all test virtual_channels) merges in
     let channels = and_parts (are_read format spacecraft items) (list_all test virtual_channels) all.1 in
     let channel = on_channel format spacecraft vc items in
-    let here = and_parts (keeps_first channel) (keeps_first (exchanged channel) && is_none_twice format channel)
+    let here = and_parts (keeps_first (few format) channel) (keeps_first (few format) (exchanged channel) && is_none_twice format channel)
     (each_channel test 8 0 vc channels.1 (omega arith) below) in
-    let there = and_parts (keeps_first (exchanged channel)) (is_none_twice format channel) here.1 in
+    let there = and_parts (keeps_first (few format) (exchanged channel)) (is_none_twice format channel) here.1 in
     record {
-      first = first_delivered format spacecraft vc items positive long below (and_parts (is_unbroken None false channel) (has_reasons channel) here.0).0;
+      first = first_delivered format spacecraft vc items positive long below (and_parts (is_unbroken None false channel) (has_reasons (few format) channel) here.0).0;
       second =
           second_delivered format spacecraft vc items positive long below
-          (and_parts (is_unbroken None false (exchanged channel)) (has_reasons (exchanged channel)) there.0).0;
+          (and_parts (is_unbroken None false (exchanged channel)) (has_reasons (few format) (exchanged channel)) there.0).0;
     }

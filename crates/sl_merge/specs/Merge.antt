@@ -128,9 +128,10 @@ abbrev pub stretches : List Fated → List Stretch
 stretches [] = empty_stretch ∷ []
 stretches (item ∷ later) = cut_at item (stretches later)
 
--- as many frames as may have a damaged count or virtual channel where no frame has room
-abbrev pub few : ℕ
-few = 8
+-- As many frames as may have a damaged count or virtual channel where no frame has room. With an error control field none
+-- has: a damaged frame is skipped.
+abbrev pub few : TmFormat → ℕ
+few format = cond format.fecf 0 8
 
 -- the count follows the one before the stretch, if there are both
 abbrev pub is_closed_by : Stretch → Option ℕ → Bool
@@ -138,26 +139,27 @@ is_closed_by stretch None = false
 is_closed_by stretch (Some count) = follows_last stretch.after count
 
 -- Frames may be left out of a stretch between two frames of both: no more than frames of the other alone stand in it; or
--- a few where the count of the second frame of both follows that of the first, so that no frame has room between them.
-abbrev pub is_fair : Stretch → Option ℕ → Bool
-is_fair stretch count =
-    nat_le stretch.left_out stretch.others || (nat_le stretch.left_out few && is_closed_by stretch count)
+-- this many at most where the count of the second frame of both follows that of the first, so that no frame has room
+-- between them.
+abbrev pub is_fair : ℕ → Stretch → Option ℕ → Bool
+is_fair most stretch count =
+    nat_le stretch.left_out stretch.others || (nat_le stretch.left_out most && is_closed_by stretch count)
 
 -- so of each stretch after the first frame of both, and none of the last one
-abbrev pub are_fair_later : List Stretch → Bool
-are_fair_later [] = true
-are_fair_later (stretch ∷ []) = stretch.left_out == 0
-are_fair_later (stretch ∷ next ∷ later) = is_fair stretch next.after && are_fair_later (next ∷ later)
+abbrev pub are_fair_later : ℕ → List Stretch → Bool
+are_fair_later most [] = true
+are_fair_later most (stretch ∷ []) = stretch.left_out == 0
+are_fair_later most (stretch ∷ next ∷ later) = is_fair most stretch next.after && are_fair_later most (next ∷ later)
 
 -- none is left out before the first frame of both
-abbrev pub are_fair : List Stretch → Bool
-are_fair [] = true
-are_fair (stretch ∷ later) = (stretch.left_out == 0) && are_fair_later later
+abbrev pub are_fair : ℕ → List Stretch → Bool
+are_fair most [] = true
+are_fair most (stretch ∷ later) = (stretch.left_out == 0) && are_fair_later most later
 
 -- Each frame of the first recording that is left out is a repeat, or lies in a stretch between two frames of both which
 -- is fair to what is left out of it, repeats aside.
-abbrev pub has_reasons : List Fated → Bool
-has_reasons items = are_fair (stretches (without_repeats [] items))
+abbrev pub has_reasons : ℕ → List Fated → Bool
+has_reasons most items = are_fair most (stretches (without_repeats [] items))
 
 -- how many frames of the first recording are left out on a virtual channel, repeats aside
 abbrev pub left_out_of : List Fated → ℕ
@@ -199,12 +201,13 @@ is_none_twice format items =
 -- ---- the merge
 
 -- what a merge asks of the first recording on one virtual channel: no run is broken, and what is left out has a reason
-abbrev pub keeps_first : List Fated → Bool
-keeps_first items = is_unbroken None false items && has_reasons items
+abbrev pub keeps_first : ℕ → List Fated → Bool
+keeps_first most items = is_unbroken None false items && has_reasons most items
 
 -- what a merge asks of one virtual channel
 abbrev pub is_merge_on : TmFormat → List Fated → Bool
-is_merge_on format items = keeps_first items && (keeps_first (exchanged items) && is_none_twice format items)
+is_merge_on format items =
+    keeps_first (few format) items && (keeps_first (few format) (exchanged items) && is_none_twice format items)
 
 -- The fates tell a merge of two recordings: they take all frames of both and no others, each frame that stands is read, and
 -- each virtual channel is as it should be.

@@ -1,19 +1,21 @@
 //! What a merge asks of the frames of one virtual channel.
 ghost use Rattle.std.specs.Prelude.{◌≡◌, ◌+◌, ◌<◌, ◌^◌, [], None, false};
-ghost use Rattle.sl_merge.specs.Merge.{before_after, between_after, breaks, count_of, follows_last};
-ghost use Rattle.sl_merge.specs.Merge.{has_reasons, is_repeat, is_unbroken, keeps_first, last_after};
+ghost use Rattle.sl_merge.specs.Merge.{before_after, between_after, breaks, count_of, few};
+ghost use Rattle.sl_merge.specs.Merge.{follows_last, has_reasons, is_repeat, is_unbroken};
+ghost use Rattle.sl_merge.specs.Merge.{keeps_first, last_after};
 ghost use Rattle.sl_merge.specs.Told.{from_side};
 ghost use Rattle.sl_merge.specs.Tally.{admits, ends_fairly, tally_after};
 
 use crate::fate::Fate;
 use crate::item::Item;
+use sl_tmframe::TmShape;
 
 /// Whether the frames of one virtual channel are as a merge asks of one recording: the first, or
 /// with `is_turned` the second.
-pub fn keeps_side(items: &[Item], is_turned: bool) -> bool
-    ensures { result ≡ keeps_first (from_side is_turned items.now) }
+pub fn keeps_side(shape: &TmShape, items: &[Item], is_turned: bool) -> bool
+    ensures { result ≡ keeps_first (few shape.now) (from_side is_turned items.now) }
 {
-    is_unbroken(items, is_turned) && has_reasons(items, is_turned)
+    is_unbroken(items, is_turned) && has_reasons(items, is_turned, few(shape))
 }
 
 // What a run needs to know of the frames before it.
@@ -85,8 +87,13 @@ fn is_unbroken(items: &[Item], is_turned: bool) -> bool
     true
 }
 
-// How many frames may have a damaged count or virtual channel where no frame has room.
-const FEW: usize = 8;
+// How many frames may have a damaged count or virtual channel where no frame has room. A damaged
+// frame with an error control field is skipped.
+fn few(shape: &TmShape) -> usize
+    ensures { result ≡ few shape.now }
+{
+    if shape.fecf() { 0 } else { 8 }
+}
 
 // What came of a stretch between frames of both recordings.
 #[derive(Clone, Copy)]
@@ -101,22 +108,23 @@ struct Tally {
 
 impl Tally {
     // Whether the frames that are left out have a reason, where the next frame ends the stretch.
-    fn admits(&self, item: &Item) -> bool
-        ensures { result ≡ admits self.now item.now.fate (count_of item.now.frame) }
+    fn admits(&self, item: &Item, most: usize) -> bool
+        ensures { result ≡ admits most self.now item.now.fate (count_of item.now.frame) }
     {
         match item.fate() {
-            Fate::Both => self.ends_fairly(item.count()),
+            Fate::Both => self.ends_fairly(item.count(), most),
             _ => true,
         }
     }
 
     // Whether they have a reason, where a frame of both with this count ends the stretch.
-    fn ends_fairly(&self, count: u8) -> bool
-        ensures { result ≡ ends_fairly self.now.after self.now.left_out self.now.others count }
+    fn ends_fairly(&self, count: u8, most: usize) -> bool
+        ensures { result ≡ ends_fairly most self.now.after self.now.left_out self.now.others count }
     {
         match self.after {
             Some(last) => {
-                self.left_out <= self.others || (self.left_out <= FEW && follows(Some(last), count))
+                self.left_out <= self.others
+                    || (self.left_out <= most && follows(Some(last), count))
             }
             None => self.left_out == 0,
         }
@@ -148,9 +156,9 @@ impl Tally {
 }
 
 // Whether each frame of a recording that is left out has a reason: the first one's, or with
-// `is_turned` the second one's.
-fn has_reasons(items: &[Item], is_turned: bool) -> bool
-    ensures { result ≡ has_reasons (from_side is_turned items.now) }
+// `is_turned` the second one's. `most` may be left out where no frame has room.
+fn has_reasons(items: &[Item], is_turned: bool, most: usize) -> bool
+    ensures { result ≡ has_reasons most (from_side is_turned items.now) }
 {
     let mut before: &[u8] = &[];
     let mut tally = Tally {
@@ -165,7 +173,7 @@ fn has_reasons(items: &[Item], is_turned: bool) -> bool
         if is_repeat {
             continue;
         }
-        if !tally.admits(&side) {
+        if !tally.admits(&side, most) {
             return false;
         }
         tally = tally.after(&side);

@@ -53,9 +53,10 @@ pub fn merged_recording(
 ///   frames, or a multiple, can't stand: the counts don't tell the outage from none.
 /// - A frame that is left out is skipped, or it is the frame before it of its recording and channel
 ///   once more, octet for octet. Else it lies between two frames of both, and of this stretch no
-///   more frames of the recording are left out than frames of the other one alone stand there, or
-///   at most eight where the count of the second frame of both follows that of the first. So the
-///   same frame of both may be left out of each.
+///   more frames of the recording are left out than frames of the other one alone stand there, or,
+///   where frames have no error control field, at most eight if the count of the second frame of
+///   both follows that of the first: such frames may have a damaged count. So the same frame of
+///   both may be left out of each.
 /// - No octets stand on a channel both as a frame of the first recording alone and as one of the
 ///   second alone, but where their payload comes twice among the frames of a recording that stand,
 ///   as that of idle frames.
@@ -123,10 +124,10 @@ fn is_merge_on<S: BuildHasher + Copy>(
 ) -> Result<bool, AllocError>
     ensures { IfOk result (λ is. is ≡ is_merge_on shape.now items.now) }
 {
-    if !keeps_side(items, false) {
+    if !keeps_side(shape, items, false) {
         return Ok(false);
     }
-    if !keeps_side(items, true) {
+    if !keeps_side(shape, items, true) {
         return Ok(false);
     }
     is_none_twice(alloc, hasher, shape, items)

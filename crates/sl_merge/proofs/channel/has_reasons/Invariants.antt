@@ -9,7 +9,7 @@ invariant-loop-item l =
     record {
       left_out : l.tally.left_out ≤ l.item-index;
       others : l.tally.others ≤ l.item-index;
-      judged : judge l.tally.after l.tally.left_out l.tally.others
+      judged : judge l.most l.tally.after l.tally.left_out l.tally.others
           (stretches (without_repeats l.before (from_side l.is_turned (drop l.item-index l.items))))
-          ≡ has_reasons (from_side l.fn.is_turned l.fn.items);
+          ≡ has_reasons l.fn.most (from_side l.fn.is_turned l.fn.items);
     }

@@ -44,7 +44,7 @@ pub record MergesTo (link : Link) (one other merged : List ℕ) (turn : Turn) : 
 abbrev pub is_sure : Turn → Bool
 is_sure turn =
     (turn.counts.first_left_out.stretches == 0) && ((turn.counts.second_left_out.stretches == 0)
-    && ((turn.outages == 0) && ((turn.open == 0) && (turn.undecided == 0))))
+    && ((turn.outages == 0) && ((turn.guessed == 0) && (turn.undecided == 0))))
 
 -- recordings are merged to this, and all is sure if it was before and the turn is
 pub record MergesOn (link : Link) (one other : List ℕ) (sure_before : Bool) (merged : List ℕ) (sure : Bool) : Type 0 where

@@ -108,7 +108,7 @@ Of each two recordings that are merged three lines go to the standard error:
   in-both      frames that both recordings have
   outages      stretches whose order is the likeliest, after 256 frames or more were lost in a row
   open         stretches whose order is a guess
-  undecided    stretches of which the frames of one recording are left out
+  undecided    stretches of which frames of one recording are left out
   idle         choices among equal idle frames
 
 Example:
@@ -151,7 +151,26 @@ fn merge_command<'a>(alloc: Global) -> Result<Command<'a>, AllocError> {
     let command = command.arg(required(first))?;
     let command = command.arg(required(second))?;
     let command = command.arg(others.num_args(1..).action(ArgAction::Append))?;
-    command.args(link_options(alloc)?)
+    with_options(alloc, command)
+}
+
+// With the options that `sllink` takes. Those of TC frames change nothing, so the help leaves them
+// out.
+fn with_options<'a>(alloc: Global, command: Command<'a>) -> Result<Command<'a>, AllocError> {
+    let mut command = command;
+    for option in link_options(alloc)? {
+        let is_hidden = is_of_tc(option.get_id());
+        command = command.arg(option.hide(is_hidden))?;
+    }
+    Ok(command)
+}
+
+// Whether an option is of TC frames alone.
+fn is_of_tc(name: &str) -> bool {
+    matches!(
+        name,
+        "tc-length" | "tc-fecf" | "window" | "vr" | "vr-of" | "plain"
+    )
 }
 
 // A file.

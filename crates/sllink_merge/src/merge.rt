@@ -30,7 +30,7 @@ pub struct Turn {
     /// Stretches in which 256 frames or more of a channel were lost in a row, in the likeliest order.
     pub outages: u64,
     /// Stretches whose order is a guess.
-    pub open: u64,
+    pub guessed: u64,
     /// Stretches of which the frames of one recording are left out.
     pub undecided: u64,
     /// Choices among equal idle frames.
@@ -230,7 +230,7 @@ fn merge_by<S: BuildHasher + Copy>(
     ensures merged { IfOk result (λ merged. IsMergedBy link.now one.now other.now
         order.now.fates.items merged.0.items merged.1.counts) }
     ensures told { IfOk result (λ merged. (merged.1.outages ≡ order.now.outages)
-        × (merged.1.open ≡ order.now.open) × (merged.1.undecided ≡ order.now.undecided)
+        × (merged.1.guessed ≡ order.now.guessed) × (merged.1.undecided ≡ order.now.undecided)
         × (merged.1.idle ≡ order.now.idle)) }
     ensures refused { IfErr result (λ why. why ≢ Unmerged.Memory
         → IsRefusedFor link.now one.now other.now order.now.fates.items why) }
@@ -242,7 +242,7 @@ fn merge_by<S: BuildHasher + Copy>(
                 let turn = Turn {
                     counts,
                     outages: order.outages,
-                    open: order.open,
+                    guessed: order.guessed,
                     undecided: order.undecided,
                     idle: order.idle,
                     packets,
@@ -340,6 +340,6 @@ fn is_sure(turn: &Turn) -> bool
     turn.counts.first_left_out.stretches == 0
         && turn.counts.second_left_out.stretches == 0
         && turn.outages == 0
-        && turn.open == 0
+        && turn.guessed == 0
         && turn.undecided == 0
 }

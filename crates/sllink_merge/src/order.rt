@@ -55,9 +55,9 @@ pub struct Order {
     pub fates: Vec<Fate>,
     /// The stretches whose order is a guess, and, without error control field, the frames near which
     /// a nearly equal one of the other recording stands. All frames of them stand in the merge.
-    pub open: u64,
+    pub guessed: u64,
     /// The stretches of which one recording's frames are left out, and, without error control field,
-    /// the frames that are left out amid a run of the other recording.
+    /// the places amid a run of the other recording where a few are.
     pub undecided: u64,
     /// The stretches in which one recording lost 256 frames of a channel in a row or more, or both
     /// did, and one way fits the frames, or one is clearly the likeliest.
@@ -153,7 +153,7 @@ fn order_with(
     let copies = count_copies(both, fates.as_slice());
     Ok(Some(Order {
         fates,
-        open: choices.orders.saturating_add(copies),
+        guessed: choices.orders.saturating_add(copies),
         undecided: choices.frames,
         outages: choices.outages,
         idle: choices.idle,

@@ -48,7 +48,7 @@ fn write_turn<E: Write>(
     let Turn {
         counts,
         outages,
-        open,
+        guessed,
         undecided,
         idle,
         packets,
@@ -59,7 +59,7 @@ fn write_turn<E: Write>(
     let frames = both.saturating_add(first).saturating_add(second);
     writeln!(
         errors,
-        "merge: frames {frames} in-both {both} packets {packets} outages {outages} open {open} undecided {undecided} idle {idle}"
+        "merge: frames {frames} in-both {both} packets {packets} outages {outages} open {guessed} undecided {undecided} idle {idle}"
     )
 }
 

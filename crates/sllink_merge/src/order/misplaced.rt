@@ -8,7 +8,7 @@ use std::alloc::{AllocError, Global};
 const FEW: usize = 8;
 
 /// Leaves out a few frames of one recording alone that stand between two of the other whose counts
-/// follow, and returns how many. It is for frames without an error control field.
+/// follow, and returns in how many places. It is for frames without an error control field.
 pub fn leave_misplaced(
     alloc: Global,
     firsts: &[Mark],
@@ -58,7 +58,8 @@ fn leave_out(order: &mut [Fate], counts: &[u8], is_turned: bool) -> u64 {
         match fate {
             Fate::Both | Fate::First => {
                 if 0 < between && between <= FEW && last == Some(count.wrapping_sub(1)) {
-                    left = left.saturating_add(leave_seconds(order, begin, at, is_turned));
+                    leave_seconds(order, begin, at, is_turned);
+                    left = left.saturating_add(1);
                 }
                 last = Some(*count);
                 begin = at;
@@ -72,13 +73,10 @@ fn leave_out(order: &mut [Fate], counts: &[u8], is_turned: bool) -> u64 {
 }
 
 // Leaves out the frames of the second recording alone from one place to another.
-fn leave_seconds(order: &mut [Fate], begin: usize, end: usize, is_turned: bool) -> u64 {
-    let mut left = 0u64;
+fn leave_seconds(order: &mut [Fate], begin: usize, end: usize, is_turned: bool) {
     for fate in order.iter_mut().take(end).skip(begin) {
         if from_side(*fate, is_turned) == Fate::Second {
             *fate = from_side(Fate::SecondLeftOut, is_turned);
-            left = left.saturating_add(1);
         }
     }
-    left
 }

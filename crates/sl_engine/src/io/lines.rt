@@ -22,8 +22,8 @@ pub struct Lines {
     // `clear` sets `len` alone; that of an `ArrayVec` overwrites what it has. A plain array would
     // do too, but is first built in another place: 64 KiB more of the stack, which can't always
     // grow where memory is short.
-    // The calls are inlined, and within a line `len` is a register: `show` loads it twice for a TM
-    // frame, and stores it three times.
+    // Most calls are inlined, and from one of these to the next `len` is a register: for a TM frame
+    // `show` loads it twice, and stores it three times.
     text: ArrayVec<u8, LINES_SIZE>,
     len: usize,
     decimals: Decimals,

@@ -229,9 +229,9 @@ bench:
 quick:
 	for crate in sl_tests sl_link_tests sllink; do (cd crates/$$crate && rt try --test) || exit 1; done
 
-# Quotes what the crates promise, in docs/contracts.md: where a change of the sources leaves that page as it is, no clause
-# is gone or another. In a folder CONTRACTS it writes a page for each crate, with the definitions that its clauses cite.
-# It wants neither the program nor the kit.
+# Quotes what the crates promise, each in its page of docs/contracts/: where a change of the sources leaves these pages
+# as they are, no clause is gone or another. In a folder CONTRACTS it writes pages that also have the definitions that
+# clauses cite. It wants neither the program nor the kit.
 contracts:
 	@python3 -B tests/lib/contracts.py $(CONTRACTS)
 

@@ -3,11 +3,11 @@
 
     python3 tests/lib/contracts.py [FOLDER [ROOT]]
 
-writes docs/contracts.md, which tests/reading compares: the public types, traits and calls of each crate of crates.txt
-(of a program the calls between its modules, and those of main), module by module, each call with its clauses. Comments,
-line breaks in clauses and what is private are left out. With a FOLDER it writes FOLDER/CRATE.md in its place, which also
-have those definitions of specs/ that the clauses cite, directly or through others. ROOT is the repository, or a state of
-it, as `git archive COMMIT | tar x -C ROOT` writes it.
+writes docs/contracts/CRATE.md, which tests/reading compares, and takes away those of crates that are gone: the public
+types, traits and calls of each crate of crates.txt (of a program the calls between its modules, and those of main),
+module by module, each call with its clauses. Comments, line breaks in clauses and what is private are left out. With a
+FOLDER it writes FOLDER/CRATE.md in their place, which also have those definitions of specs/ that the clauses cite,
+directly or through others. ROOT is the repository, or a state of it, as `git archive COMMIT | tar x -C ROOT` writes it.
 """
 
 import re
@@ -17,12 +17,11 @@ from pathlib import Path
 from typing import Dict, Iterator, List, NamedTuple, Optional, Set, Tuple
 
 ROOT = Path(__file__).resolve().parents[2]
-PAGE = """# Contracts
-
-`make contracts` writes this page: the public types and calls of each crate, each call with its clauses as `src/` has
-them, but for comments and line breaks. `specs/` defines the words. `x.old` is what `x` was at the call, `x.new` what it
-is at the return, and `x.now` the value of what isn't changed; `result` is the answer. [proofs.md](proofs.md) says which
-clause carries which promise.
+PAGES = ROOT / "docs/contracts"
+ABOUT = """`make contracts` writes this page: the public types and calls of the crate, each call with its clauses as
+`src/` has them, but for comments and line breaks. `specs/` defines the words, and [proofs.md](../proofs.md) says which
+clause carries which promise. `x.old` is what `x` was at the call, `x.new` what it is at the return, and `x.now` the
+value of what isn't changed; `result` is the answer.
 """
 Name = Tuple[str, str, str]                                # a crate, a file of its specs/ as Io.Lines, a name there
 LITERAL = r'b?"(?:\\.|[^"\\])*"|b?\'(?:\\[^\']+|[^\\\'\n])\''
@@ -203,21 +202,22 @@ class Repository:
             yield f"## specs/{module.replace('.', '/')}.antt\n\n```antt\n{text}\n```\n"
 
 
-def page(root: Path = ROOT) -> str:
-    """docs/contracts.md."""
-    repository = Repository(root)
-    return "\n".join([PAGE, *(text for crate in repository.names for text in repository.calls(crate))])
+def pages(root: Path = ROOT, cited: bool = False) -> Dict[str, str]:
+    """The page of each crate that has calls, by its name: with what clauses cite, or as docs/contracts/ has it."""
+    whole = Repository(root)
+    calls = {crate: list(whole.calls(crate)) for crate in whole.names}
+    return {f"{crate}.md": "\n".join([f"# {crate}\n", *calls[crate], *whole.definitions(crate)] if cited else
+                                     [f"# {crate}\n", ABOUT, *calls[crate]]) for crate in filter(calls.get, calls)}
 
 
 if __name__ == "__main__":
     if len(sys.argv) > 3:
         sys.exit(__doc__)
-    if len(sys.argv) == 1:
-        (ROOT / "docs/contracts.md").write_text(page())
-    else:
-        whole = Repository(Path(sys.argv[2]) if len(sys.argv) == 3 else ROOT)
-        calls = {crate: list(whole.calls(crate)) for crate in whole.names}
-        Path(sys.argv[1]).mkdir(parents=True, exist_ok=True)
-        for crate in filter(calls.get, calls):
-            text = "\n".join([f"# {crate}\n", *calls[crate], *whole.definitions(crate)])
-            Path(sys.argv[1], f"{crate}.md").write_text(text)
+    asked = [Path(it) for it in sys.argv[1:]]
+    folder, root = asked + [PAGES, ROOT][len(asked):]
+    made = pages(root, cited=bool(asked))
+    folder.mkdir(parents=True, exist_ok=True)
+    for gone in () if asked else {*folder.glob("*.md")} - {folder / name for name in made}:
+        gone.unlink()
+    for name, text in made.items():
+        (folder / name).write_text(text)

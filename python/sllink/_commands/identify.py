@@ -8,9 +8,8 @@
     -V, --version  Print the version
 
 The first line says what it is, and the last ones are commands of a shell: sllink-frames writes the frames into a file
-beside it, where they aren't all of it, and sllink check reads them. Of two recordings, the last line compares them, and
-the one before it merges TM frames of one format. Where the signs aren't plain, or frames shift, the last line begins
-with "can't say:" and says why.
+beside it, where they aren't all of it, and sllink check reads them. Of two recordings, the last line compares them, the
+one before it merges TM frames of one format. Where signs aren't plain, or frames shift, it is "can't say:", and why.
 
 Status: 0 there are commands, with --options words; 1 there are none; 2 the recording can't be read, with a line on the
 standard error. It has to be a file; one whose name begins with a dash is ./-NAME, or comes after --. Nothing else is

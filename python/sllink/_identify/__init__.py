@@ -12,12 +12,10 @@ from .._options import Options, options_of
 
 @dataclass(frozen=True)
 class Identification:
-    """What a recording is. str() gives the lines of sllink-identify, without the recording's name.
-
-    `what` says it in some words, and `lines` what was found. If that is plain, `commands` are a shell's command lines:
-    they write its frames, if need be, and check them, for each spacecraft, or unpack it; else `why` says why there are
-    none. Where the program reads it as it is, `words` are kind and options, as in `tm --scid 1 --tm-length 1115`.
-    """
+    """What a recording is. str() gives the lines of sllink-identify, without the recording's name. `what` says it in
+    some words, and `lines` what was found. If that is plain, `commands` are a shell's command lines: they write its
+    frames, if need be, and check them, for each spacecraft, or unpack it; else `why` says why there are none. Where the
+    program reads it as it is, `words` are kind and options, as in `tm --scid 1 --tm-length 1115`."""
 
     what: str
     lines: Tuple[str, ...] = ()
@@ -36,15 +34,11 @@ class Identification:
         return options_of(self.words[1:]) if self.words else None
 
     def __str__(self) -> str:
-        last = self.commands if self.why is None else [f"can't say: {self.why}"]
-        return "\n".join([self.what, *self.lines, *last])
+        return "\n".join([self.what, *self.lines, *(self.commands if self.why is None else [f"can't say: {self.why}"])])
 
 
 def identify(recording: Union[str, bytes, "os.PathLike[str]", "os.PathLike[bytes]"]) -> Identification:
-    """Says what the recording of this path is. No program is run, and of a large recording only parts are read.
-
-    OSError: it can't be read, or is no file.
-    """
+    """Says what the recording of this path is. No program is run. OSError: it can't be read, or is no file."""
     from .choice import identification                    # pylint: disable=import-outside-toplevel
     name = os.fsdecode(recording)
     # a pipe that nobody writes into isn't waited for
@@ -62,8 +56,7 @@ def commands_of_both(one: Identification, other: Identification) -> List[str]:
     if len(checks) != 2 or checks[0][0].split()[:3] != checks[1][0].split()[:3]:
         return ["can't say: these aren't two recordings of one spacecraft that sllink reads"]
     (first, _, one_name), (second, _, other_name) = checks
-    kind, *options = first.split()
-    files = f"{kind} {one_name} {other_name}"
+    (kind, *options), files = first.split(), f"{first[:2]} {one_name} {other_name}"
     merges = [f"sllink-merge {files} {' '.join(options)} > both.tm"] * (kind == "tm" and first == second)
     if first != second:
         options[2:] = [f"--{side}-options '{' '.join(it.split()[3:])}'" for side, it in (("a", first), ("b", second))]
@@ -83,12 +76,12 @@ def frames_of(name: str, what: str, lines: List[str], words: Sequence[List[str]]
     which they lie; where they begin, and the program that writes them, if they aren't all of a file."""
     if len(pieces) > 1:
         lines += [f"piece at {it.start} octets {len(it)}" for it in pieces[:20]]
+        lines += [f"later pieces {len(pieces) - 20}"] * (len(pieces) > 20)
         why = why or f"frames shift: octets are missing, or too many, between {len(pieces)} pieces"
     if why:
         return Identification(what, tuple(lines), why=why)
     writes = [f"tail -c +{begin + 1}"] * (begin > 0) + [program] * bool(program)
-    commands = [f"sllink check {' '.join(it)} < {quoted(name, '.frames' * bool(writes))}" for it in words]
-    if writes:
-        writes[0] += f" {quoted(name)}"
-        commands.insert(0, f"{' | '.join(writes)} > {quoted(name, '.frames')}")
+    writes[:1] = [f"{it} {quoted(name)}" for it in writes[:1]]
+    commands = [f"{' | '.join(writes)} > {quoted(name, '.frames')}"] * bool(writes)
+    commands += [f"sllink check {' '.join(it)} < {quoted(name, '.frames' * bool(writes))}" for it in words]
     return Identification(what, tuple(lines), () if writes else tuple(words[0]), tuple(commands))

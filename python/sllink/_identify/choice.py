@@ -14,6 +14,7 @@ from .signs import (APART, PAIRS, SECONDS, SHORTEST, TC_SEQUENCE, TM_SEQUENCE, L
 HEAD, BLOCK, WHOLE = 1 << 17, 1 << 20, 2 << 20            # octets of signs, TM frames, TC frames that are looked at
 MARKER, START, TAIL = b"\x1a\xcf\xfc\x1d", b"\xeb\x90", b"\xc5" * 7 + b"\x79"        # of 131.0-B and of 231.0-B
 CADUS, READS = "CADUs: sync markers (1ACFFC1D) before frames", "sllink reads TM and TC frames"
+STOPPED = f"stopped after {SECONDS} s of the processor's time"
 FILES = (                                                 # the command that makes octets of a file, and how it begins
     ("compressed by gzip", "gunzip < {} > {}", rb"\x1f\x8b"), ("compressed by bzip2", "bunzip2 < {} > {}", rb"BZh"),
     ("compressed by xz", "unxz < {} > {}", rb"\xfd7zXZ\0"), ("a zip archive", "unzip -p {} > {}", rb"PK\x03\x04"),
@@ -27,11 +28,10 @@ def identification(name: str, file: int) -> Identification:
     """What the recording of this name is, by each sign in turn."""
     recording = Recording(name, file)
     head = recording.read(0, HEAD)
-    for what, command, begins in FILES:
-        if re.match(begins, head):
-            bare = re.sub(r"\.(gz|bz2|xz|zst|zip)$", "", name)
-            command = command.format(quoted(name), quoted(bare, ".octets" * (bare == name)))
-            return Identification(what, commands=(command,)) if command else Identification(what, why=READS)
+    for what, command, _ in (it for it in FILES if re.match(it[2], head)):
+        bare = re.sub(r"\.(gz|bz2|xz|zst|zip)$", "", name)
+        command = command.format(quoted(name), quoted(bare, ".octets" * (bare == name)))
+        return Identification(what, commands=(command,)) if command else Identification(what, why=READS)
     why = "there are no sync markers, start sequences, error control fields or headers that go on"
     try:
         layout = by_markers(recording, head)
@@ -40,10 +40,10 @@ def identification(name: str, file: int) -> Identification:
         layout = layout or by_distance(recording, head, control(head, known))
         found = None if layout else found or tc(recording, known, head, True)
         for mask in b"", TM_SEQUENCE:
-            layout = layout or (None if found else by_distance(recording, head, headers(head, mask), mask))
+            layout = layout or (None if found else by_distance(recording, head, headers(head, mask or bytes(5)), mask))
         found = tm(recording, head, layout) if layout else found or tc(recording, known, head, False) or other(head)
     except Late:
-        found, why = None, f"stopped after {SECONDS} s of the processor's time"
+        found, why = None, STOPPED
     return found or Identification("unknown", why=why)
 
 
@@ -61,7 +61,6 @@ def other(head: bytes, distance: int = 0) -> Optional[Identification]:
 
 class Layout(NamedTuple):
     """How frames lie. With a length of 0 there are sync markers, and what is behind them isn't plain."""
-
     at: int                                               # the first place
     distance: int                                         # from one to the next
     marked: bool = False                                  # whether sync markers are before them
@@ -107,51 +106,60 @@ def by_distance(recording: Recording, head: bytes, seen: Seen, mask: bytes = b""
     return max(filter(None, found), key=lambda it: it.fecf, default=None)
 
 
-def pieces_of(recording: Recording, it: Layout) -> List[range]:
-    """The pieces in which frames lie, by error control fields, or else by headers; in a large recording, at places."""
+def pieces_of(recording: Recording, it: Layout) -> Tuple[List[range], int]:
+    """The pieces in which frames lie, and for how many octets the time was enough. Where one goes on, each header is
+    looked at; at both its ends, and between pieces, error control fields, or else three headers."""
     mask, length, fecf, apart = it.mask or bytes(5), it.length, it.fecf, it.distance
     own = {craft ^ craft_of(mask) for craft in it.some}   # as they stand
     right = crc_hqx(it.mask[:length], 0)                  # the register, with what the mask adds to it
+    odd = {place: bytes(octet not in them for octet in range(256)) for place, them in (
+        (0, {craft >> 4 for craft in own}), (1, {craft << 4 & 240 | low for craft in own for low in range(16)}),
+        (4, {octet for octet in range(256) if (octet ^ mask[4]) & 0x58 >= 0x18}))}
 
     def sound(octets: bytes, at: int) -> bool:
         frame = octets[at:at + length]
         return len(frame) == length and craft_of(frame) in own and (crc_hqx(frame, 0xFFFF) == right if fecf else (
-            frame[4] ^ mask[4]) & 0x58 >= 0x18 and not (at and octets.startswith(frame[:4], max(0, at - apart))))
+            not odd[4][frame[4]] and not (at and octets.startswith(frame[:4], max(0, at - apart)))))
 
-    sign = re.compile(b"[%s]" % re.escape(bytes({craft >> 4 for craft in own})))
+    def plain(octets: bytes, at: int) -> int:             # how many headers aren't odd, and have new counts, from here
+        columns = [octets[at + place:place + 1 - length:apart] for place in range(5)]
+        first, second = (int.from_bytes(column, "big") for column in columns[2:4])
+        new = (first ^ first >> 8 | second ^ second >> 8).to_bytes(len(columns[0]), "big")
+        return min((new + b"\0").index(0, 1), *((columns[it].translate(odd[it]) + b"\1").index(1) for it in odd))
+
+    sign, at, seen = re.compile(b"[%s]" % re.escape(bytes({craft >> 4 for craft in own}))), 0, 0
     found: List[range] = []
-    for block in range(0, recording.size, max(BLOCK, recording.size // 8)):
-        octets, at = recording.read(block, BLOCK), 0
-        while place := sign.search(octets, at):
-            recording.look_at_clock()
+    while seen < recording.size and not recording.is_late():
+        octets = recording.read(seen, BLOCK + 4 * apart)
+        while (place := sign.search(octets, at)) and place.start() < BLOCK and not recording.is_late():
             on, at = place.start(), place.start() + 1
-            goes_on = found and (block + on - found[-1].start) % apart == 0
+            goes_on = found and (seen + on - found[-1].start) % apart == 0
             if all(sound(octets, on + row * apart) for row in range(1 if fecf or goes_on else 3)):
-                begin = found.pop().start if goes_on else block + on
-                while sound(octets, on):
-                    on, at = on + apart, on + length
-                found.append(range(begin, block + at))
+                rows = range(on, len(octets), apart)[:max(1, plain(octets, on))]
+                at = length + next(row for row in reversed(rows) if sound(octets, row))
+                found.append(range(found.pop().start if goes_on else seen + on, seen + at))
+        at, seen = max(at - BLOCK, 0), min(seen + BLOCK, recording.size)
     begin, end = (found[0].start, found.pop(0).stop) if found else (it.at, it.at)
     while begin >= it.distance and craft_of(unmasked(recording.read(begin - it.distance, 2), it.mask)) in it.some:
         begin -= it.distance                              # frames with bit errors
-    return [range(begin, end), *found]
+    return [range(begin, end), *found], seen - min(seen, BLOCK) * recording.is_late()
 
 
-def tm(recording: Recording, head: bytes, it: Layout) -> Identification:
-    """What a recording of frames that lie so is."""
+def tm(recording: Recording, head: bytes, it: Layout) -> Identification:      # what one of frames that lie so is
     if not it.length:
         found = other(head[it.at:], it.distance)
         return Identification(CADUS, why=found.what if found else "what is between them isn't plain, also derandomised")
     if it.marked:
-        what, pieces = CADUS, [range(recording.size)]
-        places = [at.end() for at in re.finditer(re.escape(MARKER), head)]
+        what, pieces, seen = CADUS, [range(recording.size)], recording.size
+        places = (at.end() for at in re.finditer(re.escape(MARKER), head))
         lines = [f"sync markers {it.distance} octets apart, {'' if it.mask else 'not '}randomised"]
     else:
         what = f"{'randomised ' * bool(it.mask)}TM transfer frames of {it.length} octets"
         what += f", {it.distance - it.length} other octets between them" * (it.distance > it.length)
-        lines, pieces = [], pieces_of(recording, it)
-        places = [at for piece in pieces for at in piece[:BLOCK:it.distance]]
-    read = (recording.read(at, it.length) for at in places[:max(300, BLOCK // it.length)])
+        pieces, seen = pieces_of(recording, it)
+        lines = [f"octets looked at {seen} of {recording.size}"] * (seen < recording.size)
+        places = (at for piece in pieces for at in piece[:BLOCK:it.distance])
+    read = (recording.read(at, it.length) for at in islice(places, max(300, BLOCK // it.length)))
     frames = [unmasked(frame, it.mask) for frame in read if len(frame) == it.length]
     some, begin = crafts(frames) or it.some, pieces[0].start
     own = [frame for frame in frames if craft_of(frame) in some]
@@ -159,7 +167,8 @@ def tm(recording: Recording, head: bytes, it: Layout) -> Identification:
     lines += [*about(frames, craft_of, some, it.fecf, (recording.size - begin) // it.distance),
               f"operational control field frames {sum(frame[1] & 1 for frame in own)}",
               *[f"secondary header or synchronisation flag frames {opaque}, opaque"] * (20 * opaque > len(frames))]
-    why = "less than half of it are such frames" * (2 * sum(map(len, pieces)) < recording.size - 2 * it.distance)
+    why = "less than half of it are such frames" * (2 * sum(map(len, pieces)) < seen - begin - 2 * it.distance)
+    why = why if seen == recording.size else STOPPED * (len(pieces) < 2)
     lead, trail = 0, it.distance - it.length - len(MARKER) * it.marked
     begin, lead, trail = (0, begin, trail - begin) if begin <= trail else (begin, 0, trail)
     options = f" --marker {MARKER.hex()} --errors 3" * it.marked + f" --lead {lead}" * (lead > 0)
@@ -169,8 +178,7 @@ def tm(recording: Recording, head: bytes, it: Layout) -> Identification:
                      f"sllink-frames --length {it.length}{options}" * bool(options))
 
 
-def cut(octets: bytes) -> Iterator[bytes]:
-    """Octets cut by the lengths that frames state."""
+def cut(octets: bytes) -> Iterator[bytes]:                # by the lengths that frames state
     at = 0
     while length := stated(octets, at):
         yield octets[at:at + length]

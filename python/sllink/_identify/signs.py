@@ -17,14 +17,15 @@ class Late(Exception):
     """A recording takes more than SECONDS."""
 
 
-class Recording:
-    """A file of which parts are read, as far as it has them, and a clock."""
-
+class Recording:                                          # a file of which parts are read, and a clock
     def __init__(self, name: str, file: int) -> None:
         self.name, self.size, self._file, self._begun = name, os.fstat(file).st_size, file, thread_time()
 
+    def is_late(self) -> bool:
+        return thread_time() - self._begun > SECONDS
+
     def look_at_clock(self) -> None:
-        if thread_time() - self._begun > SECONDS:
+        if self.is_late():
             raise Late
 
     def read(self, offset: int, length: int) -> bytes:
@@ -42,8 +43,7 @@ def sequence(*taps: int) -> bytes:
 TM_SEQUENCE, TC_SEQUENCE = sequence(1, 3, 5, 8), sequence(2, 4, 5, 6, 7, 8)       # of 131.0-B and of 231.0-B
 
 
-def unmasked(octets: bytes, mask: bytes) -> bytes:
-    """The octets without a randomiser's sequence, or as they are."""
+def unmasked(octets: bytes, mask: bytes) -> bytes:        # without a randomiser's sequence, or as they are
     return bytes(map(xor, octets, mask)) if mask else octets
 
 
@@ -91,8 +91,7 @@ def about(frames: Sequence[bytes], whose: Callable[[bytes], int], main: Sequence
             f"error control field {known} right {right_fields(frames)}"]
 
 
-def craft_of(octets: bytes, at: int = 0) -> int:
-    """Version and spacecraft of the TM frame here."""
+def craft_of(octets: bytes, at: int = 0) -> int:          # version and spacecraft of the TM frame here
     return octets[at] << 4 | octets[at + 1] >> 4
 
 
@@ -127,7 +126,6 @@ def headers(octets: bytes, mask: bytes) -> Seen:
     """Where frames seem to lie: a header has the next count of an earlier one of its spacecraft, or virtual channel."""
     found: Seen = counter()
     places: Dict[int, List[int]] = {}
-    mask = mask or bytes(5)
     for at in range(min(len(octets), HEADERS) - 4):
         if octets[at] ^ mask[0] > 63 or (octets[at + 4] ^ mask[4]) & 0x18 != 0x18 or len(found) > PAIRS:
             continue
@@ -162,8 +160,7 @@ def joined(run: Sequence[bytes], end: int) -> bool:
     return chained((b"".join(it[6:end - 4 * (it[1] & 1)] for it in run[:-1]) + run[-1][6:6 + last])[first:])
 
 
-def chained(octets: bytes) -> bool:
-    """Whether the octets are packets end to end."""
+def chained(octets: bytes) -> bool:                       # whether they are packets end to end
     at = 0
     while at + 7 <= len(octets) and not octets[at] >> 5 and any(octets[at:at + 6]):
         at += 7 + (octets[at + 4] << 8 | octets[at + 5])
@@ -185,6 +182,5 @@ def tc_field(frames: Sequence[bytes]) -> Optional[bool]:
     """Whether TC frames have the error control field, or packets end with them; None if that isn't sure."""
     right, (bare, behind) = right_fields(frames), (sum(
         any(chained(it[at:len(it) - end]) for at in (5, 6)) for it in frames[:300]) for end in (0, 2))
-    if right >= 2 and 2 * right >= len(frames) and bare <= behind + 1:
-        return True
-    return False if right <= max(1, 0.03 * len(frames)) and bare > max(1, 2 * behind) else None
+    no = False if right <= max(1, 0.03 * len(frames)) and bare > max(1, 2 * behind) else None
+    return True if right >= 2 and 2 * right >= len(frames) and bare <= behind + 1 else no

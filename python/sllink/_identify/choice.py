@@ -79,6 +79,8 @@ def layout_of(recording: Recording, head: bytes, places: Sequence[int], it: Layo
     own, fecf = [unit for unit in units if craft_of(unit) in some], length > 0
     if not fecf and len(own) >= max(5, 0.75 * len(units)) and risen(own) >= max(5, 0.3 * len(own)):
         length = data_end(recording, own[:500])
+        some = [craft for craft in some if not length or length == data_end(
+            recording, [unit[:length] for unit in own if craft_of(unit) == craft][:500])]
     others = sum(length in (7 + (unit[4] << 8 | unit[5]), stated(unit, 0, True)) for unit in units)
     return it._replace(length=length, some=some, fecf=fecf) if length and some and 2 * others < len(units) else None
 

@@ -106,8 +106,7 @@ def risen(frames: Sequence[bytes]) -> int:
     return number
 
 
-def crafts(frames: Sequence[bytes]) -> List[int]:
-    """The spacecraft of which there are frames enough, of version 0, with counts that rise."""
+def crafts(frames: Sequence[bytes]) -> List[int]:         # of frames enough, of version 0, with counts that rise
     numbers = counter(craft_of(it) for it in frames if it[0] < 64 and (it[4] & 0x40 or it[4] & 0x18 == 0x18))
     return [craft for craft, number in numbers.most_common(20) if number >= max(2, 0.02 * len(frames))
             and risen([it for it in frames if craft_of(it) == craft]) >= 0.3 * (number - 1)]
@@ -154,8 +153,7 @@ def data_end(recording: Recording, units: Sequence[bytes]) -> int:
     return 0
 
 
-def joined(run: Sequence[bytes], end: int) -> bool:
-    """Whether packets lie end to end from the first one of a frame up to the first one of a later frame."""
+def joined(run: Sequence[bytes], end: int) -> bool:       # whether packets lie end to end, first to last
     first, last = ((unit[4] & 7) << 8 | unit[5] for unit in (run[0], run[-1]))
     return chained((b"".join(it[6:end - 4 * (it[1] & 1)] for it in run[:-1]) + run[-1][6:6 + last])[first:])
 

@@ -26,7 +26,6 @@ impl CaduShape {
     ghost use Rattle.sl_sync.specs.Cadu.{before, has_marker, needed, stride};
 
     /// The octets of a unit before its frame.
-    #[inline(always)]
     pub(crate) fn before(&self) -> usize
         ensures value { result ≡ before self.now }
         ensures most { result ≤ 65551 }
@@ -35,7 +34,6 @@ impl CaduShape {
     }
 
     /// The octets of a unit up to the end of its frame.
-    #[inline(always)]
     pub(crate) fn needed(&self) -> usize
         ensures value { result ≡ needed self.now }
         ensures most { result ≤ 131086 }
@@ -44,7 +42,6 @@ impl CaduShape {
     }
 
     /// The octets of a unit.
-    #[inline(always)]
     pub(crate) fn stride(&self) -> usize
         ensures value { result ≡ stride self.now }
         ensures most { result ≤ 196621 }

@@ -15,7 +15,6 @@ impl Units for CaduShape {
         2 * self.stride() + self.marker.len()
     }
 
-    #[inline(always)]
     #[tactic(auto, unfolding(crate::specs::Cadu::cadu_begins))]
     fn begins(&self, place: Place, octets: &[u8]) -> bool {
         let stride = self.stride();
@@ -49,7 +48,6 @@ impl Units for CaduShape {
 }
 
 // Whether a unit ended here.
-#[inline(always)]
 fn is_next(place: Place) -> bool
     ensures { result ≡ is_next place }
 {
@@ -57,7 +55,6 @@ fn is_next(place: Place) -> bool
 }
 
 // The octets of the frame of the unit that is here.
-#[inline(always)]
 fn frame_in<'a>(shape: &CaduShape, octets: &'a [u8]) -> &'a [u8]
     requires { needed shape.now ≤ length octets.now }
     ensures { result.now ≡ take shape.now.len (drop (before shape.now) octets.now) }

@@ -26,7 +26,6 @@ impl Units for CltuShape {
         8 * 1024 + 10
     }
 
-    #[inline(always)]
     #[tactic(auto, unfolding(crate::specs::Cltu::cltu_begins))]
     fn begins(&self, _place: Place, octets: &[u8]) -> bool {
         starts(self, octets) && is_block(behind(octets, 2))
@@ -99,7 +98,6 @@ fn next_start(shape: &CltuShape, octets: &[u8], most: usize) -> usize
 }
 
 // Whether the start sequence is at the front, or as much of it as the file still has.
-#[inline(always)]
 fn starts(shape: &CltuShape, octets: &[u8]) -> bool
     ensures { result ≡ has_sequence shape.now start_sequence octets.now }
 {

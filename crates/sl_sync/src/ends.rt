@@ -2,7 +2,6 @@
 ghost use Rattle.std.specs.Prelude.{◌≡◌, drop};
 
 /// The octets behind the first `count`; where there are no more than these, none.
-#[inline(always)]
 pub fn behind(octets: &[u8], count: usize) -> &[u8]
     ensures { result.now ≡ drop count octets.now }
 {

@@ -13,7 +13,6 @@ pub enum Randomiser {
 
 /// Adds the sequence of a randomiser to octets, where `on` is set: this takes it off where it is on
 /// them.
-#[inline(always)]
 pub fn randomise_if(on: bool, randomiser: Randomiser, octets: &mut [u8])
     ensures { octets.new ≡ randomised_if on randomiser octets.old }
 {
@@ -23,7 +22,6 @@ pub fn randomise_if(on: bool, randomiser: Randomiser, octets: &mut [u8])
 }
 
 // Adds the sequence of a randomiser to octets.
-#[inline(always)]
 fn randomise(randomiser: Randomiser, octets: &mut [u8])
     ensures { octets.new ≡ randomised randomiser octets.old }
 {
@@ -35,7 +33,6 @@ fn randomise(randomiser: Randomiser, octets: &mut [u8])
 }
 
 // The octet of a randomiser's sequence that has this number, from 0 on.
-#[inline(always)]
 fn sequence_at(randomiser: Randomiser, place: usize) -> u8
     requires { place < 255 }
     ensures { result ≡ later randomiser (8 * place) 255 }

@@ -38,7 +38,6 @@ impl Totals {
     }
 
     /// The counts with those of a unit.
-    #[inline(always)]
     pub(crate) fn with_unit(self, held: Held) -> Totals
         ensures { CountsUnit self held result }
     {
@@ -53,7 +52,6 @@ impl Totals {
     }
 
     /// The counts with a number of stray octets, each with this place behind it.
-    #[inline(always)]
     pub(crate) fn with_stray(self, place: Place, count: usize) -> Totals
         ensures { CountsStray self place count result }
     {

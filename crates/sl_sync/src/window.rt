@@ -59,7 +59,6 @@ pub fn push_frames<U: Units>(
 }
 
 // Whether there are octets, and what the first of them is can be seen.
-#[inline(always)]
 fn is_seen(octets: &[u8], ended: bool, ahead: usize) -> bool
     ensures seen { result ≡ true → (0 < length octets.now)
         × ((ended ≡ true) ⊎ (ahead ≤ length octets.now)) }
@@ -69,7 +68,6 @@ fn is_seen(octets: &[u8], ended: bool, ahead: usize) -> bool
 }
 
 // Of how many octets it can be seen what they are.
-#[inline(always)]
 fn seen(octets: &[u8], ended: bool, ahead: usize) -> usize
     requires some { 1 ≤ length octets.now }
     requires far { (1 ≤ ahead) × ((ended ≡ true) ⊎ (ahead ≤ length octets.now)) }

@@ -50,8 +50,22 @@ right_a = right 0 1 196 115
 abbrev right_b : List ℕ
 right_b = right 1 2 231 206
 
+abbrev right_c : List ℕ
+right_c = right 2 3 73 248
+
 abbrev right_d : List ℕ
 right_d = right 3 4 160 180
+
+-- eight frames whose counts don't go on from `a`, and that they are left out
+abbrev eight : List ℕ
+eight =
+    frame 0 10 9 ++ frame 0 11 9 ++ frame 0 12 9 ++ frame 0 13 9 ++ frame 0 14 9 ++ frame 0 15 9 ++ frame 0 16 9
+    ++ frame 0 17 9
+
+abbrev without_eight : List Fate → List Fate
+without_eight later =
+    FirstLeftOut ∷ FirstLeftOut ∷ FirstLeftOut ∷ FirstLeftOut ∷ FirstLeftOut ∷ FirstLeftOut ∷ FirstLeftOut ∷ FirstLeftOut
+    ∷ later
 
 record Facts : Type 0 where
   -- each lost one frame of the channel
@@ -75,10 +89,15 @@ record Facts : Type 0 where
   -- between two frames of both as many may be left out as stand of the other
   for_others : merges (a ++ b ++ d) (a ++ c ++ d) (Both ∷ FirstLeftOut ∷ Second ∷ Both ∷ []) ≡ true
   for_none : merges (a ++ b ++ d) (a ++ d) (Both ∷ FirstLeftOut ∷ Both ∷ []) ≡ false
-  -- a frame without room may have a damaged count where it has no error control field
+  -- up to eight frames without room may have a damaged count where they have no error control field
   damaged_count : merges (a ++ d ++ b) (a ++ b) (Both ∷ FirstLeftOut ∷ Both ∷ []) ≡ true
+  eight_counts : merges (a ++ eight ++ b) (a ++ b) (Both ∷ without_eight (Both ∷ [])) ≡ true
+  nine_counts : merges (a ++ d ++ eight ++ b) (a ++ b) (Both ∷ FirstLeftOut ∷ without_eight (Both ∷ [])) ≡ false
+  -- with the field none is left out there; these frames are read, and may be left out for others
   right_count : checked (right_a ++ right_d ++ right_b) (right_a ++ right_b) (Both ∷ FirstLeftOut ∷ Both ∷ []) ≡ false
   right_frames : checked (right_a ++ right_b ++ right_d) (right_a ++ right_b) (Both ∷ Both ∷ First ∷ []) ≡ true
+  right_for_others :
+      checked (right_a ++ right_b ++ right_d) (right_a ++ right_c ++ right_d) (Both ∷ FirstLeftOut ∷ Second ∷ Both ∷ []) ≡ true
   kept : first_kept 12 (a ++ b ++ d) (a ++ c ++ d) (Both ∷ FirstLeftOut ∷ Second ∷ Both ∷ []) ≡ a ++ d
   kept_of_second : second_kept 12 (a ++ b ++ d) (a ++ c ++ d) (Both ∷ FirstLeftOut ∷ Second ∷ Both ∷ []) ≡ a ++ c ++ d
   -- a damaged frame stands nowhere, and is on no channel; what follows the last frame belongs to no merge
@@ -108,8 +127,11 @@ facts =
       for_others = refl;
       for_none = refl;
       damaged_count = refl;
+      eight_counts = refl;
+      nine_counts = refl;
       right_count = refl;
       right_frames = refl;
+      right_for_others = refl;
       kept = refl;
       kept_of_second = refl;
       skipped = refl;

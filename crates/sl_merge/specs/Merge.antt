@@ -129,7 +129,7 @@ stretches [] = empty_stretch ∷ []
 stretches (item ∷ later) = cut_at item (stretches later)
 
 -- As many frames as may have a damaged count or virtual channel where no frame has room. With an error control field none
--- has: a damaged frame is skipped.
+-- is taken to have: a damaged frame is skipped.
 abbrev pub few : TmFormat → ℕ
 few format = cond format.fecf 0 8
 

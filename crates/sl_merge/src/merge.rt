@@ -48,15 +48,16 @@ pub fn merged_recording(
 ///   of a recording belongs to no merge. Frames of both have the same octets.
 /// - Each frame that stands is one that is read.
 /// - On each virtual channel no run of a recording is broken: where the count of a frame that
-///   stands follows that of the recording's frame before it, no frame of the other recording alone
-///   stands between the two. So frames of the other recording during an outage of exactly 256
-///   frames, or a multiple, can't stand: the counts don't tell the outage from none.
+///   stands follows that of the recording's frame that stands before it, no frame of the other
+///   recording alone stands between the two. So frames of the other recording during an outage of
+///   exactly 256 frames, or a multiple, can't stand in their place: the counts don't tell the outage
+///   from none.
 /// - A frame that is left out is skipped, or it is the frame before it of its recording and channel
 ///   once more, octet for octet. Else it lies between two frames of both, and of this stretch no
-///   more frames of the recording are left out than frames of the other one alone stand there, or,
-///   where frames have no error control field, at most eight if the count of the second frame of
-///   both follows that of the first: such frames may have a damaged count. So the same frame of
-///   both may be left out of each.
+///   more frames of the recording are left out, repeats aside, than frames of the other one alone
+///   stand there; so the same frame of both may be left out of each. Or, where frames have no error
+///   control field, so that a count may be damaged, at most eight are left out of it, and the count
+///   of the second frame of both follows that of the first.
 /// - No octets stand on a channel both as a frame of the first recording alone and as one of the
 ///   second alone, but where their payload comes twice among the frames of a recording that stand,
 ///   as that of idle frames.
@@ -65,7 +66,7 @@ pub fn merged_recording(
 /// payload comes once in each; where all payloads come twice, as those of idle frames, it may be
 /// one. To leave out all of a recording is no merge, but where all its frames are skipped.
 ///
-/// The test fails only where memory is refused.
+/// The test fails only where memory is refused, which no clause says.
 pub fn is_merge_tm<S: BuildHasher + Copy>(
     alloc: Global,
     hasher: S,

@@ -197,7 +197,7 @@ class MergeSide(Line):
 @dataclass(frozen=True)
 class MergeTurn(Line):
     """Two recordings that sllink-merge merged, and what they became: frames, those that both have, packets, stretches in
-    the likeliest order, those whose order is a guess, those of which the frames of one are left out, and choices among
+    the likeliest order, those whose order is a guess, those of which frames of one are left out, and choices among
     equal idle frames. The line has the last seven."""
 
     __slots__ = ("first", "second", "frames", "in_both", "packets", "outages", "open", "undecided", "idle")

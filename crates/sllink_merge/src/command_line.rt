@@ -93,9 +93,10 @@ const VERSION: &str = "2.0.0";
 
 // What stands below the options in the help.
 const EXAMPLES: &str = "\
-Each frame that one of the recordings has stands in the merge once, in the order of each recording.
-The merge is written once it has passed a check: so it delivers each packet that a recording
-delivers, and packets whose frames are partly in one recording and partly in another.
+Each frame that one of the recordings has stands in the merge once, in the order of each recording,
+but for frames that are left out. The merge is written once it has passed a check: so it delivers
+each packet that a recording delivers without these, and packets whose frames are partly in one
+recording and partly in another.
 
 Of each two recordings that are merged three lines go to the standard error:
   frames       whole frames
@@ -154,8 +155,8 @@ fn merge_command<'a>(alloc: Global) -> Result<Command<'a>, AllocError> {
     with_options(alloc, command)
 }
 
-// With the options that `sllink` takes. Those of TC frames change nothing, so the help leaves them
-// out.
+// With the options that `sllink` takes. Those of TC frames change nothing, unless a value is
+// refused, so the help leaves them out.
 fn with_options<'a>(alloc: Global, command: Command<'a>) -> Result<Command<'a>, AllocError> {
     let mut command = command;
     for option in link_options(alloc)? {

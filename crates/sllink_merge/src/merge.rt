@@ -31,7 +31,7 @@ pub struct Turn {
     pub outages: u64,
     /// Stretches whose order is a guess.
     pub guessed: u64,
-    /// Stretches of which the frames of one recording are left out.
+    /// Stretches of which frames of one recording are left out.
     pub undecided: u64,
     /// Choices among equal idle frames.
     pub idle: u64,

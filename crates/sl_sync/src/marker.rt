@@ -65,8 +65,7 @@ impl SyncMarker {
     }
 
     /// Whether the marker is at the front of octets, with no more wrong bits than it may have.
-    /// Where they are fewer than its own, as much of it is looked for as can be there. With this
-    /// call and those below inlined a search in noise takes 15 instructions an octet, else 30.
+    /// Where they are fewer than its own, as much of it is looked for as can be there.
     #[inline(always)]
     pub(crate) fn is_at(&self, octets: &[u8]) -> bool
         ensures { result ≡ is_marked self.now octets.now }
@@ -83,6 +82,8 @@ impl SyncMarker {
         self.is_at(octets)
     }
 
+    // With `is_at` and the private functions below inlined, a search in noise for four octets, of
+    // which two bits may be wrong, takes 15 instructions an octet, else 30 (21707895).
     /// The first place from `from` on, and before `end`, at which the marker is; `end` where it is
     /// at none of them.
     pub(crate) fn find(&self, octets: &[u8], from: usize, end: usize) -> usize

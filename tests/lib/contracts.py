@@ -18,10 +18,10 @@ from typing import Dict, Iterator, List, NamedTuple, Optional, Set, Tuple
 
 ROOT = Path(__file__).resolve().parents[2]
 PAGES = ROOT / "docs/contracts"
-ABOUT = """`make contracts` writes this page: the public types and calls of the crate, each call with its clauses as
-`src/` has them, but for comments and line breaks. `specs/` defines the words, and [proofs.md](../proofs.md) says which
-clause carries which promise. `x.old` is what `x` was at the call, `x.new` what it is at the return, and `x.now` the
-value of what isn't changed; `result` is the answer.
+ABOUT = """`make contracts` writes this page: the public types and calls of the crate, of a program those of its
+files, with the clauses in `src/`, but for comments and line breaks. The crates' `specs/` define the words, and
+[proofs.md](../proofs.md) says which clause carries which promise. `x.old` and `x.entry` are what `x` was at the call,
+`x.new` is what it is at the return, `x.now` the value of what isn't changed; `result` is the answer.
 """
 Name = Tuple[str, str, str]                                # a crate, a file of its specs/ as Io.Lines, a name there
 LITERAL = r'b?"(?:\\.|[^"\\])*"|b?\'(?:\\[^\']+|[^\\\'\n])\''

@@ -164,8 +164,8 @@ dist: built
 	  '    export PYTHONPATH=D/share/sllink/python                     the module, where pip has not installed the wheel' \
 	  '    export PKG_CONFIG_PATH=D/lib/pkgconfig LD_LIBRARY_PATH=D/lib    the library for C, where lib is there' \
 	  '    export SLLINK_LIBRARY=D/lib/libsllink.so                    the same, where pip has installed the wheel' "" \
-	  "Begin with sllink-identify FILE: it says what a station's file holds, and prints the commands that read it:" \
-	  "sllink-frames takes the frames out, and sllink checks them. Then sllink-compare says which packets only one of" \
+	  "Begin with sllink-identify FILE, or two files: it says what a station's file holds, and prints the commands that" \
+	  "read it: sllink-frames takes the frames out, sllink checks them. Then sllink-compare says which packets only one of" \
 	  "two recordings has, sllink-merge makes one of several, and sllink-report a page. Each has --help and a manual" \
 	  "page." \
 	  "CHANGELOG.md says what changed. No licence has been chosen for sllink yet. Ask whoever gave you this archive" \
